@@ -1,0 +1,4 @@
+mod Bits
+mod Counts
+mod Points
+mod Starts
