@@ -1,0 +1,16 @@
+pub mod Tests
+pub mod Below
+pub mod Words
+pub mod Simulations
+pub mod Settling
+pub mod Names
+pub mod Climb
+pub mod Reach
+pub mod Alike
+pub mod Classes
+pub mod Pigeons
+pub mod Smallest
+pub mod Tables
+pub mod Fewest
+pub mod Labels
+pub mod Book
