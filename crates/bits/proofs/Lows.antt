@@ -1,17 +1,17 @@
 -- The lowest bit of a word, and its low bits.
 use mathlib.Core.Path.{_≡_, refl, sym, ap, _∙_}
-use mathlib.Core.Bool.{Bool, true, false, not, _&&_}
+use mathlib.Core.Bool.{true, false, _&&_}
 use mathlib.Core.Logic.{inl, inr}
-use Prim.Native.Nat.{ℕ, zero, suc, _+_, _-_, _*_, _/_, _%_, _^_, _<_, _≤_}
+use Prim.Native.Nat.{ℕ, zero, suc, _-_, _*_, _/_, _%_, _^_, _<_, _≤_}
 use native.Mathlib.Nat.{div-one, pow-suc, mod-eq-of-lt, le-trans}
 use native.Mathlib.Numerals.{one-add}
 use native.Mathlib.Omega.{arith}
 use lib.Bits.{bitAnd, and-mask}
 use lib.Count.{trailingZeros, under}
-use lib.Dec.{eqb, ltb, leb}
+use lib.Dec.{eqb, ltb}
 use lib.Pow.{shr-shr, pow-pos, pow-mono}
 use Rattle.std.proofs.shelf.Bits.{mod-below, one-shl}
-use Rattle.std.proofs.shelf.Tests.{cases-lt, eq-eqb, eqb-true, eqb-false, lt-ltb, le-ltb, not-true, not-false}
+use Rattle.std.proofs.shelf.Tests.{cases-lt, eqb-true, eqb-false, lt-ltb, le-ltb, not-true, not-false}
 use Rattle.bits.specs.Bit.{bit, some-bit, Lowest}
 use Rattle.bits.proofs.Words.{bit-zero, bit-mod, bit-none, bit-past}
 

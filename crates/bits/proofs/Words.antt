@@ -1,11 +1,11 @@
 -- The bits of words under the operations on words.
-use mathlib.Core.Path.{_≡_, refl, sym, ap, ap₂, _∙_, subst}
+use mathlib.Core.Path.{_≡_, refl, sym, ap, _∙_, subst}
 use mathlib.Core.Bool.{Bool, true, false, not, _&&_, _||_}
-use mathlib.Core.Logic.{_≢_, inl, inr, ⊎-elim}
-use Prim.Native.Nat.{ℕ, zero, suc, _+_, _-_, _*_, _/_, _%_, _^_, _<_, _≤_, min, max}
+use mathlib.Core.Logic.{inl, inr}
+use Prim.Native.Nat.{ℕ, suc, _+_, _-_, _*_, _/_, _%_, _^_, _<_, _≤_, min, max}
 use native.Mathlib.Nat.{add-comm, add-mul, mul-assoc, pow-suc, div-eq-of-lt, zero-div, le-trans}
 use native.Mathlib.Omega.{arith}
-use lib.Bits.{bitAnd, bitOr, bitXor, and-step, or-step, xor-add-and, and-shr, or-shr, xor-shr, and-mask}
+use lib.Bits.{bitAnd, bitOr, bitXor, and-step, or-step, xor-add-and, and-shr, or-shr, xor-shr}
 use lib.Dec.{eqb, ltb, leb}
 use lib.Pow.{pow-mono, field, mod-mod-pow, pow-add, shr-shr, split, high, pow-pos, shl-shr}
 use Rattle.std.proofs.shelf.Ways.{tells}

@@ -1,12 +1,12 @@
 -- The cut list of the code is a rising list, and stays one.
-use mathlib.Core.Path.{_≡_, refl, sym, ap, ap₂, _∙_, subst}
-use mathlib.Core.List.{List, [], _∷_, _++_}
+use mathlib.Core.Path.{_≡_, refl, sym, ap, _∙_, subst}
+use mathlib.Core.List.{List}
 use mathlib.Core.Logic.{_⊎_, inl, inr}
-use mathlib.Core.Bool.{true, false, _&&_, cond}
+use mathlib.Core.Bool.{true, false, cond}
 use Prim.Native.Nat.{ℕ, zero, suc, _+_, _-_, _%_, _^_, _<_, _≤_}
 use lib.Dec.{leb, ltb}
 use native.Mathlib.Omega.{arith}
-use lib.ListN.{length, getD, set, take}
+use lib.ListN.{length, getD, set}
 use Rattle.std.proofs.shelf.Lists.{getD-take, getD-past, getD-set-same, getD-set-other, length-take-le}
 use Rattle.std.proofs.shelf.Tests.{and-from, and-parts, and-right, cases-lt, le-leb, lt-ltb, ltb-true}
 use Rattle.std.specs.Options.{Cases}

@@ -1,16 +1,14 @@
 -- What a rising list of cuts makes of its segments.
-use mathlib.Core.Path.{_≡_, refl, sym, ap, ap₂, _∙_, subst}
-use mathlib.Core.Bool.{Bool, true, false, _&&_, cond}
+use mathlib.Core.Path.{_≡_, sym, ap, ap₂, _∙_, subst}
+use mathlib.Core.Bool.{Bool, true, false, cond}
 use mathlib.Core.List.{List, [], _∷_, _++_}
 use mathlib.Core.Logic.{_⊎_, inl, inr}
 use Prim.Native.Nat.{ℕ, zero, suc, _+_, _-_, _<_, _≤_}
-use native.Mathlib.Nat.{add-zero, add-assoc}
-use native.Mathlib.Numerals.{add-one}
 use native.Mathlib.Omega.{arith}
 use lib.Dec.{leb, ltb}
 use lib.ListN.{length, getD, take}
 use Rattle.std.proofs.shelf.Lists.{getD-take, length-take-le, take-more}
-use Rattle.std.proofs.shelf.Tests.{and-from, le-leb, lt-leb, lt-ltb, cases-lt, cases-order}
+use Rattle.std.proofs.shelf.Tests.{and-from, le-leb, lt-leb, lt-ltb, cases-order}
 use Rattle.labels.specs.Segments.{is-point, Rising, goes-on, segment, first-in}
 
 segment-push : (cuts : List ℕ) (cut c : ℕ) → segment (cuts ++ (cut ∷ [])) c ≡ segment cuts c + cond (leb cut c) 1 0

@@ -1,7 +1,7 @@
 -- What it is to write a text into a buffer, and to read one from the front of some bytes.
 use mathlib.Core.Path.{_≡_}
 use mathlib.Core.List.{List, _++_}
-use Prim.Native.Nat.{ℕ, _+_, _^_, _<_, _≤_}
+use Prim.Native.Nat.{ℕ, _+_, _<_}
 use lib.Dec.{eqb, ltb}
 use lib.ListN.{length, drop}
 use mathlib.Core.Bool.{cond}

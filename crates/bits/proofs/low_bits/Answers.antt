@@ -1,8 +1,7 @@
 use mathlib.Core.Path.{_≡_, ap, _∙_}
-use Prim.Native.Nat.{_+_, _-_, _*_, _%_, _^_}
+use Prim.Native.Nat.{_+_, _-_, _%_, _^_}
 use native.Mathlib.Omega.{arith}
 use borrow.Author.Needs.{needs}
-use lib.Bits.{bitAnd}
 use Rattle.bits.specs.Bit.{bit}
 use Rattle.bits.proofs.Lows.{low-mask, bit-low, word-mod}
 use Rattle.bits.proofs.low_bits.Needs as need

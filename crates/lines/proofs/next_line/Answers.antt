@@ -1,5 +1,4 @@
 use mathlib.Core.Path.{ap, _∙_}
-use borrow.Author.Needs.{needs}
 use Rattle.lines.specs.Fields.{split}
 use Rattle.lines.proofs.Fields.{split-free, split-newline}
 use Rattle.lines.proofs.next_line.Needs as need

@@ -1,4 +1,3 @@
-use mathlib.Core.Path.{sym, _∙_}
 use Rattle.std.proofs.shelf.Tests.{lt-ltb}
 use Rattle.bits.specs.Matrix.{pair}
 use Rattle.bits.proofs.matrix.is_kept.Needs as need

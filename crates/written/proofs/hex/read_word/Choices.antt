@@ -1,5 +1,5 @@
 use mathlib.Core.Path.{_≡_}
-use Prim.Native.Nat.{ℕ, _-_, _*_, _^_, _<_}
+use Prim.Native.Nat.{_-_, _*_, _^_, _<_}
 use lib.ListN.{drop}
 use Rattle.written.specs.Hex.{hex-read}
 use Rattle.written.proofs.hex.read_word.Given as given

@@ -3,7 +3,7 @@ use mathlib.Core.List.{_++_}
 use Prim.Native.Nat.{_-_, _*_, _/_, _%_, _^_}
 use native.Mathlib.Omega.{arith}
 use lib.Bits.{and-mask}
-use lib.ListN.{length, set, drop}
+use lib.ListN.{set, drop}
 use Rattle.std.proofs.shelf.Lists.{take-all}
 use Rattle.written.specs.Hex.{hex-digit, hexes}
 use Rattle.written.proofs.Hexes.{length-hexes, getD-hexes, put-more}

@@ -1,4 +1,3 @@
-use native.Mathlib.Omega.{arith}
 use Rattle.labels.proofs.CutLists.{first-in-cuts}
 use Rattle.labels.proofs.cuts.Cuts.first_in.Needs as need
 

@@ -1,12 +1,10 @@
-use mathlib.Core.Path.{_≡_, sym, ap, _∙_}
-use mathlib.Core.Bool.{true}
+use mathlib.Core.Path.{sym}
 use Prim.Native.Nat.{_<_, _≤_}
 use native.Mathlib.Omega.{arith}
 use borrow.Author.Needs.{needs}
 use lib.ListN.{length}
 use Rattle.std.proofs.shelf.Lists.{take-more-set}
-use Rattle.labels.specs.CutLists.{cuts-of}
-use Rattle.labels.proofs.CutLists.{length-cuts, last-cut, each-push, rises-push, pushes}
+use Rattle.labels.proofs.CutLists.{last-cut, each-push, rises-push, pushes}
 use Rattle.labels.proofs.cuts.Cuts.push.Needs as need
 
 pub ghost-self : need.ghost-self

@@ -1,4 +1,3 @@
-use native.Mathlib.Omega.{arith}
 use Rattle.written.proofs.Hexes.{length-hexes}
 use Rattle.written.proofs.instances.CodePointsWritten.text_len.Needs as need
 

@@ -1,7 +1,7 @@
-use mathlib.Core.Path.{_≡_, refl, ap}
-use Prim.Native.Nat.{_-_, _≤_, _+_}
+use mathlib.Core.Path.{refl, ap}
+use Prim.Native.Nat.{_-_, _≤_}
 use native.Mathlib.Omega.{arith}
-use lib.ListN.{length, take, drop}
+use lib.ListN.{length}
 use Rattle.std.proofs.shelf.Lists.{length-drop, take-rest}
 use Rattle.written.proofs.Codecs.{room-both, wrote-both}
 use Rattle.written.proofs.instances.SumWritten.write.Needs as need
