@@ -1,0 +1,11 @@
+pub mod Sums
+pub mod Sorting
+pub mod Places
+pub mod Reading
+pub mod Joining
+pub mod Gathering
+pub mod Striking
+pub mod Filling
+pub mod Waking
+pub mod Settled
+pub mod Stepping
