@@ -1,0 +1,9 @@
+pub mod Blank
+pub mod Naming
+pub mod Chains
+pub mod Gathering
+pub mod Linking
+pub mod Walking
+pub mod Listing
+pub mod Rows
+pub mod Whole

@@ -1,0 +1,4 @@
+pub mod Filled
+pub mod Chains
+pub mod Sorted
+pub mod Drawn
