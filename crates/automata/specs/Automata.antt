@@ -1,6 +1,6 @@
 -- Automata over any type of symbols, made from marks and arrows; the words that they accept, and the states that they reach.
 -- Sets and relations are tests, and only states below `size` count. Assumes nothing.
-use Rattle.std.specs.Prelude.{◌≡◌, ℕ, ◌<◌, Bool, true, false, ◌&&◌, ◌||◌, T, List, [], ◌∷◌, length, ◌==◌, ◌≢◌, slice_index_or}
+use Rattle.std.specs.Prelude.{ℕ, ◌<◌, Bool, true, false, ◌&&◌, ◌||◌, T, List, [], ◌∷◌, length, ◌==◌, ◌≢◌, slice_index_or}
 use Rattle.std.specs.List.{AllByRecursion as All}
 use Rattle.automata.specs.declared.Arrow.{Arrow}
 use Rattle.automata.specs.declared.Mark.{Mark}

@@ -5,6 +5,7 @@
 // simulation and a reduction are is defined in specs/, in the order Below, Automata, Simulation, Reduction, Labels, Book,
 // Minimal, and the theorems about them are stated in specs/Theorems. Each function here that ends in `_stand` or
 // `_stands` has one of them as its contract: it computes nothing, and the crate is refused without its proof.
+#![tactic(auto)]
 
 ghost use Rattle.std.specs.Prelude.{◌≡◌};
 ghost use Rattle.automata.specs.Automata.{mark_is_start, mark_accepts, mark};

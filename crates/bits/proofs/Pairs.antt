@@ -5,7 +5,7 @@ use Rattle.std.proofs.lemmas.Nat.{mod_below}
 use Rattle.std.proofs.lemmas.Bool.{cases_eq, cases_lt, cases_order, eq-eqb, ne_eqb, lt-ltb, le-ltb, le-leb, lt-leb}
 use Rattle.bits.specs.Bit.{bit}
 use Rattle.bits.specs.Matrix.{pair, Changed}
-use Rattle.bits.proofs.Words.{bit_or, bit_and, bit_not, bit_left, bit_past}
+use Rattle.bits.proofs.Words.{bit-bit_or, bit-bit_and, bit_not, bit_left, bit_past}
 
 -- a word in the place of the word of the pair p, q, of which it differs in one bit, now x
 pub changed : (x : Bool) (rows : List ℕ) (p q w : ℕ) → 4 * p + 3 < length rows → q < 256
@@ -41,7 +41,7 @@ bit_one k j h = rw (bit_left, lt-ltb j 64 h) (elim (cases_order j k) [
 ])
 
 pub bit_keep : (w k j : ℕ) → j < 64 → bit (bit_or w ((1 * 2 ^ k) % 2 ^ 64)) j ≡ cond (eqb j k) true (bit w j)
-bit_keep w k j h = rw (bit_or, bit_one k j h) (grind arith)
+bit_keep w k j h = rw (bit-bit_or, bit_one k j h) (grind arith)
 
 pub bit_clear : (w k j : ℕ) → j < 64 → bit (bit_and w (2 ^ 64 - 1 - (1 * 2 ^ k) % 2 ^ 64)) j ≡ cond (eqb j k) false (bit w j)
-bit_clear w k j h = rw (bit_and, bit_not ((1 * 2 ^ k) % 2 ^ 64) j (mod_below (1 * 2 ^ k) (2 ^ 64) (pow_pos 64)), lt-ltb j 64 h, bit_one k j h) (grind arith)
+bit_clear w k j h = rw (bit-bit_and, bit_not ((1 * 2 ^ k) % 2 ^ 64) j (mod_below (1 * 2 ^ k) (2 ^ 64) (pow_pos 64)), lt-ltb j 64 h, bit_one k j h) (grind arith)

@@ -6,7 +6,7 @@ use Rattle.std.proofs.lemmas.List.Elements.{AllWithin-more, at_read}
 use Rattle.std.proofs.lemmas.Bool.{cases_Bool, cases_eq, cases_lt, lt-ltb, ltb-true}
 use Rattle.bits.specs.Bit.{bit, Lowest}
 use Rattle.bits.specs.Matrix.{pair, Changed, LowestIn}
-use Rattle.bits.proofs.Words.{bit_and}
+use Rattle.bits.proofs.Words.{bit-bit_and}
 
 pub same-pair : (i j p q : ℕ) → ((i ≡ p) × (j ≡ q)) ⊎ (i ≡ p → j ≡ q → ⊥)
 same-pair i j p q = elim (cases_eq i p) [ inl e ↦ elim (cases_eq j q) [ inl d ↦ inl (e, d) | inr ne ↦ inr (λ _ d. ne d) ] | inr ne ↦ inr (λ e _. ne e) ]
@@ -35,7 +35,7 @@ row_shared rows succs both t q each k = elim (cases_Bool (ltb k 256)) [
       let i : 4 * 0 + k / 64 ≡ k / 64 = omega arith in
       let w = each (k / 64) (omega arith) in
       let b : bit (get_or both (4 * 0 + k / 64) 0) (k % 64) ≡ (bit (get_or rows (4 * t + k / 64) 0) (k % 64) && bit (get_or succs (4 * q + k / 64) 0) (k % 64)) =
-      ap (λ j. bit (get_or both j 0) (k % 64)) i ∙ ap (λ v. bit v (k % 64)) w ∙ bit_and (get_or rows (4 * t + k / 64) 0) (get_or succs (4 * q + k / 64) 0) (k % 64) in
+      ap (λ j. bit (get_or both j 0) (k % 64)) i ∙ ap (λ v. bit v (k % 64)) w ∙ bit-bit_and (get_or rows (4 * t + k / 64) 0) (get_or succs (4 * q + k / 64) 0) (k % 64) in
       rw e b
   | inr e ↦ rw e
 ]

@@ -39,17 +39,17 @@ pub bit_zero : (k : ℕ) → bit 0 k ≡ false
 unfolding bit
 bit_zero k = rw zero-div (and_right (ltb k 64) false refl)
 
-pub bit_or : (a b k : ℕ) → bit (bit_or a b) k ≡ (bit a k || bit b k)
+pub bit-bit_or : (a b k : ℕ) → bit (bit_or a b) k ≡ (bit a k || bit b k)
 unfolding bit
-bit_or a b k = ap (λ n. ltb k 64 && eqb n 1) (digit_or a b k) ∙ either_one (ltb k 64) (digit a k) (digit b k) (omega arith) (omega arith)
+bit-bit_or a b k = ap (λ n. ltb k 64 && eqb n 1) (digit_or a b k) ∙ either_one (ltb k 64) (digit a k) (digit b k) (omega arith) (omega arith)
 
-pub bit_and : (a b k : ℕ) → bit (bit_and a b) k ≡ (bit a k && bit b k)
+pub bit-bit_and : (a b k : ℕ) → bit (bit_and a b) k ≡ (bit a k && bit b k)
 unfolding bit
-bit_and a b k = ap (λ n. ltb k 64 && eqb n 1) (digit_and a b k) ∙ both_one (ltb k 64) (digit a k) (digit b k) (omega arith) (omega arith)
+bit-bit_and a b k = ap (λ n. ltb k 64 && eqb n 1) (digit_and a b k) ∙ both_one (ltb k 64) (digit a k) (digit b k) (omega arith) (omega arith)
 
-pub bit_xor : (a b k : ℕ) → bit (bit_xor a b) k ≡ differs (bit a k) (bit b k)
+pub bit-bit_xor : (a b k : ℕ) → bit (bit_xor a b) k ≡ differs (bit a k) (bit b k)
 unfolding bit
-bit_xor a b k = ap (λ n. ltb k 64 && eqb n 1) (digit_xor a b k) ∙ one_differs (ltb k 64) (digit a k) (digit b k) (omega arith) (omega arith)
+bit-bit_xor a b k = ap (λ n. ltb k 64 && eqb n 1) (digit_xor a b k) ∙ one_differs (ltb k 64) (digit a k) (digit b k) (omega arith) (omega arith)
 
 -- the quotient of a complement
 not_shr : (j k a : ℕ) → a < 2 ^ (j + k) → (2 ^ (j + k) - 1 - a) / 2 ^ k ≡ 2 ^ j - 1 - a / 2 ^ k
@@ -148,9 +148,9 @@ bit_right a j k h =
 pub word_laws : WordLaws
 word_laws = record {
   zeros = bit_zero;
-  or = bit_or;
-  and = bit_and;
-  xor = bit_xor;
+  or = bit-bit_or;
+  and = bit-bit_and;
+  xor = bit-bit_xor;
   complement = bit_not;
   left = bit_left;
   right = bit_right;

@@ -2,6 +2,7 @@
 //
 // Every set of this product that is small lies in the bits of a word (a label's style marks, the segments of a
 // label), and the simulation of a book lies in 1,024 words. Each function costs a fixed number of steps.
+#![tactic(auto)]
 
 ghost use Rattle.std.specs.Prelude.{◌≡◌, ℕ, ◌+◌, ◌%◌, ◌^◌, false, ◌&&◌, MatchOption, nat_lt};
 ghost use Rattle.bits.specs.Bit.{bit, Lowest};

@@ -4,7 +4,7 @@ use lib.Bits.{bit_and}
 use Rattle.std.proofs.lemmas.Bool.{cases_eq, both_ways, and_from, and_parts, ltb-true}
 use Rattle.bits.specs.Bit.{bit}
 use Rattle.bits.specs.Matrix.{pair, Changed}
-use Rattle.bits.proofs.Words.{bit_and, bit_zero}
+use Rattle.bits.proofs.Words.{bit-bit_and, bit_zero}
 use Rattle.engine.specs.Columns.{Gathered}
 
 pub same-pair : (i j p q : ℕ) → ((i ≡ p) × (j ≡ q)) ⊎ (i ≡ p → j ≡ q → ⊥)
@@ -41,7 +41,7 @@ rows_apart preds below t none p a b =
     let y = and_parts (ltb p 256) (bit (get_or below (4 * 0 + p / 64) 0) (p % 64)) b in
     let h = ltb-true p 256 x.0 in
     let i : 4 * 0 + p / 64 ≡ p / 64 = omega arith in
-    let both = bit_and (get_or preds (4 * t + p / 64) 0) (get_or below (p / 64) 0) (p % 64) in
+    let both = bit-bit_and (get_or preds (4 * t + p / 64) 0) (get_or below (p / 64) 0) (p % 64) in
     both_ways (bit (bit_and (get_or preds (4 * t + p / 64) 0) (get_or below (p / 64) 0)) (p % 64))
     (ap (λ w. bit w (p % 64)) (none (p / 64) (omega arith)) ∙ bit_zero (p % 64))
     (both ∙ and_from (bit (get_or preds (4 * t + p / 64) 0) (p % 64)) (bit (get_or below (p / 64) 0) (p % 64)) x.1 (ap (λ k. bit (get_or below k 0) (p % 64)) (sym i) ∙ y.1))

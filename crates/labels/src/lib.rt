@@ -3,6 +3,7 @@
 // A label is a predicate on symbols. The engine knows an algebra by the trait alone: which values are symbols and of
 // which symbols a predicate holds (ghost members, which take no memory), and six operations with a contract over that
 // meaning. No operation refuses, allocates or alters anything.
+#![tactic(auto)]
 
 ghost use Rattle.std.specs.Prelude.{◌≡◌, Bool, true, false, not, ◌&&◌, ◌||◌, Decides, MatchOption};
 

@@ -11,6 +11,9 @@ use Rattle.labels.specs.contracts.style_marks.StyleMarks as marks-type
 use Rattle.labels.specs.contracts.code_points.CodePointsLabelAlgebra.TheImpl as points
 use Rattle.labels.specs.contracts.style_marks.StyleMarksLabelAlgebra.TheImpl as marks
 use Rattle.labels.specs.contracts.sum.SumLabelAlgebra.TheImpl as sum
+use Rattle.std.specs.contracts.prelude.U8Clone.TheImpl as byte
+use Rattle.std.specs.contracts.prelude.U32Clone.TheImpl as half
+use Rattle.std.specs.contracts.prelude.U64Clone.TheImpl as word
 
 -- at a code point
 abbrev pub holds_point : CodePoints → ℕ → ℕ → Bool
@@ -18,4 +21,4 @@ holds_point = (points.ghosts).holds
 
 -- at a symbol of the sum of style marks and code points; the impl takes the types and the impls of both sides
 abbrev pub holds_symbol : Sum StyleMarks CodePoints → Both ℕ ℕ → Either ℕ ℕ → Bool
-holds_symbol = (sum.ghosts marks-type.the_row points-type.the_row u8 u64 u32 u64 marks.ghosts marks.dict points.ghosts points.dict).holds
+holds_symbol = (sum.ghosts marks-type.the_row points-type.the_row u8 u64 u32 u64 marks.ghosts marks.dict byte.ghosts byte.dict word.ghosts word.dict points.ghosts points.dict half.ghosts half.dict word.ghosts word.dict).holds

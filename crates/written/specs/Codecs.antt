@@ -1,5 +1,5 @@
 -- Words and pairs as texts: what is written is read, and what is read was written.
-use Rattle.std.specs.Prelude.{◌≡◌, ℕ, zero, suc, ◌+◌, ◌-◌, ◌*◌, ◌/◌, ◌%◌, ◌^◌, ◌<◌, ◌≤◌, min, Bool, true, false, cond, ltb, List, [], ◌++◌, length, take, drop, Some, None, Option, ◌≢◌, nat_lt, refl}
+use Rattle.std.specs.Prelude.{◌≡◌, ℕ, zero, suc, ◌+◌, ◌-◌, ◌*◌, ◌/◌, ◌%◌, ◌^◌, ◌<◌, ◌≤◌, min, Bool, true, false, ◌&&◌, cond, ltb, List, [], ◌++◌, length, take, drop, Some, None, Option, ◌≢◌, nat_lt, refl}
 use Rattle.std.proofs.Common.{sym, ap, ap₂, subst, ◌∙◌, inl, inr, mod-eq_of_lt, le_trans, arith, pow_mono, pow_pos}
 use Rattle.std.proofs.lemmas.Nat.{mod_below}
 use Rattle.std.proofs.lemmas.List.{append_assoc, append-nil, length-append, length-drop, drop_all, drop_at, drop-drop, take_all, take_at, take_rest}
@@ -7,6 +7,12 @@ use Rattle.std.proofs.lemmas.Slice.{put_mid-paste}
 use borrow.Rule.Slice.PartMut.{put_mid}
 use Rattle.std.proofs.lemmas.Bool.{cases_lt, eq-eqb, le-ltb, lt-ltb, ltb-true, ne_eqb}
 use Rattle.std.proofs.lemmas.Bool.Decides.{nat_tests}
+use Rattle.bits.proofs.Words.{bit_mod}
+use Rattle.labels.specs.declared.cuts.Cuts.{Cuts}
+use Rattle.labels.specs.CutLists.{cuts_of}
+use Rattle.labels.specs.Segments.{is_point, segment, point_holds}
+use Rattle.labels.specs.SegmentsLemmas.{segment_le}
+use Rattle.labels.specs.CutListsLemmas.{cuts_rising}
 use Rattle.labels.specs.declared.sum.Both.{Both}
 use Rattle.labels.specs.declared.sum.Either.{Either}
 use Rattle.labels.specs.declared.sum.Either.TheVariants.{Left, Right}
@@ -37,6 +43,16 @@ low_back n p rest h =
     let top : 2 ^ n ≤ 2 ^ 64 = pow_mono h in
     let same : p % 2 ^ n % 2 ^ 64 ≡ p % 2 ^ n = mod-eq_of_lt (le_trans small top) in
     word_back (2 ^ n) (p % 2 ^ n) rest (omega arith) ∙ ap (λ w. Some (record { predicate = w; len = length (hexes 16 (p % 2 ^ n)) })) same
+
+-- the text of a predicate on code points is read back as its low bits, which hold of the same code points
+pub points_back : (c : Cuts) (p : ℕ) (rest : List ℕ) → let n : ℕ = length (cuts_of c) + 1 in
+    reads_word (2 ^ n) (hex_read 16 0 (hexes 16 (p % 2 ^ n) ++ rest)) ≡ Some (record { predicate = p % 2 ^ n; len = length (hexes 16 (p % 2 ^ n)) })
+points_back c p rest = low_back (length (cuts_of c) + 1) p rest (omega (arith, (cuts_rising c).few))
+
+pub points_low : (c : Cuts) (p v : ℕ) → point_holds (cuts_of c) (p % 2 ^ (length (cuts_of c) + 1)) v ≡ point_holds (cuts_of c) p v
+points_low c p v =
+    let cuts = cuts_of c in
+    ap (λ t. is_point v && t) (bit_mod (length cuts + 1) p (segment cuts v) (omega (arith, segment_le cuts v)))
 
 pub word_refused : (n word : ℕ) (bytes : List ℕ) → Some word ≡ hex_read 16 0 bytes → (word % 2 ^ n ≢ word) → None ≡ reads_word (2 ^ n) (hex_read 16 0 bytes)
 word_refused n word bytes is ne =
@@ -92,44 +108,44 @@ behind bytes a b n m la ea lb eb = (
 )
 
 -- a left text and a right one
-module _ {P Q : Type 0} (reads-l : List ℕ → Option (Reading P)) (reads-r : List ℕ → Option (Reading Q)) where
-  pub both_back : (a b rest : List ℕ) (p : P) (q : Q) → reads-l (a ++ (b ++ rest)) ≡ Some (record { predicate = p; len = length a })
-      → reads-r (b ++ rest) ≡ Some (record { predicate = q; len = length b })
-      → reads_both (reads-l ((a ++ b) ++ rest)) reads-r ((a ++ b) ++ rest) ≡ Some (record { predicate = record { left = p; right = q }; len = length (a ++ b) })
+module _ {P Q : Type 0} (reads_l : List ℕ → Option (Reading P)) (reads_r : List ℕ → Option (Reading Q)) where
+  pub both_back : (a b rest : List ℕ) (p : P) (q : Q) → reads_l (a ++ (b ++ rest)) ≡ Some (record { predicate = p; len = length a })
+      → reads_r (b ++ rest) ≡ Some (record { predicate = q; len = length b })
+      → reads_both (reads_l ((a ++ b) ++ rest)) reads_r ((a ++ b) ++ rest) ≡ Some (record { predicate = record { left = p; right = q }; len = length (a ++ b) })
   both_back a b rest p q left right =
       let whole : (a ++ b) ++ rest ≡ a ++ (b ++ rest) = append_assoc a b rest in
       let l : Reading P = record { predicate = p; len = length a } in
       let behind : drop (length a) ((a ++ b) ++ rest) ≡ b ++ rest = ap (drop (length a)) whole ∙ drop_at a (b ++ rest) (length a) refl in
-      ap (λ o. reads_both o reads-r ((a ++ b) ++ rest)) (ap reads-l whole ∙ left)
-      ∙ ap (λ bs. reads_right l (reads-r bs)) behind
+      ap (λ o. reads_both o reads_r ((a ++ b) ++ rest)) (ap reads_l whole ∙ left)
+      ∙ ap (λ bs. reads_right l (reads_r bs)) behind
       ∙ ap (reads_right l) right
       ∙ ap (λ n. Some (record { predicate = record { left = p; right = q }; len = n })) (sym (length-append a b))
 
-  pub both_reads : (bytes part : List ℕ) (l : Reading P) (o : Option (Reading Q)) → Some l ≡ reads-l bytes → part ≡ drop l.len bytes → o ≡ reads-r part
-      → reads_right l o ≡ reads_both (reads-l bytes) reads-r bytes
-  both_reads bytes part l o left is right = ap (reads_right l) (right ∙ ap reads-r is) ∙ ap (λ x. reads_both x reads-r bytes) left
+  pub both_reads : (bytes part : List ℕ) (l : Reading P) (o : Option (Reading Q)) → Some l ≡ reads_l bytes → part ≡ drop l.len bytes → o ≡ reads_r part
+      → reads_right l o ≡ reads_both (reads_l bytes) reads_r bytes
+  both_reads bytes part l o left is right = ap (reads_right l) (right ∙ ap reads_r is) ∙ ap (λ x. reads_both x reads_r bytes) left
 
-  pub both_exact : (text-l : P → List ℕ) (text-r : Q → List ℕ) (bytes : List ℕ) (got : Reading (Both P Q))
-      → ((l : Reading P) → reads-l bytes ≡ Some l → (l.len ≡ length (text-l l.predicate)) × (bytes ≡ text-l l.predicate ++ drop l.len bytes))
-      → ((bs : List ℕ) (r : Reading Q) → reads-r bs ≡ Some r → (r.len ≡ length (text-r r.predicate)) × (bs ≡ text-r r.predicate ++ drop r.len bs))
-      → reads_both (reads-l bytes) reads-r bytes ≡ Some got
-      → (got.len ≡ length (text-l got.predicate.left ++ text-r got.predicate.right)) × (bytes ≡ (text-l got.predicate.left ++ text-r got.predicate.right) ++ drop got.len bytes)
-  both_exact text-l text-r bytes got left right e = on_left (reads-l bytes) refl e
+  pub both_exact : (text_l : P → List ℕ) (text_r : Q → List ℕ) (bytes : List ℕ) (got : Reading (Both P Q))
+      → ((l : Reading P) → reads_l bytes ≡ Some l → (l.len ≡ length (text_l l.predicate)) × (bytes ≡ text_l l.predicate ++ drop l.len bytes))
+      → ((bs : List ℕ) (r : Reading Q) → reads_r bs ≡ Some r → (r.len ≡ length (text_r r.predicate)) × (bs ≡ text_r r.predicate ++ drop r.len bs))
+      → reads_both (reads_l bytes) reads_r bytes ≡ Some got
+      → (got.len ≡ length (text_l got.predicate.left ++ text_r got.predicate.right)) × (bytes ≡ (text_l got.predicate.left ++ text_r got.predicate.right) ++ drop got.len bytes)
+  both_exact text_l text_r bytes got left right e = on_left (reads_l bytes) refl e
     where
       Exact : Reading (Both P Q) → Type 0
-      Exact r = (r.len ≡ length (text-l r.predicate.left ++ text-r r.predicate.right)) × (bytes ≡ (text-l r.predicate.left ++ text-r r.predicate.right) ++ drop r.len bytes)
+      Exact r = (r.len ≡ length (text_l r.predicate.left ++ text_r r.predicate.right)) × (bytes ≡ (text_l r.predicate.left ++ text_r r.predicate.right) ++ drop r.len bytes)
 
-      on_right : (l : Reading P) → reads-l bytes ≡ Some l → (o : Option (Reading Q)) → reads-r (drop l.len bytes) ≡ o → reads_right l o ≡ Some got → Exact got
+      on_right : (l : Reading P) → reads_l bytes ≡ Some l → (o : Option (Reading Q)) → reads_r (drop l.len bytes) ≡ o → reads_right l o ≡ Some got → Exact got
       on_right l is None was f = let z : ◌≡◌ {A = ℕ} 0 1 = cc in absurd (omega arith)
       on_right l is (Some r) was f =
           let same : record { predicate = record { left = l.predicate; right = r.predicate }; len = l.len + r.len } ≡ got = cc in
           let a = left l is in
           let b = right (drop l.len bytes) r was in
-          subst Exact same (behind bytes (text-l l.predicate) (text-r r.predicate) l.len r.len a.0 a.1 b.0 b.1)
+          subst Exact same (behind bytes (text_l l.predicate) (text_r r.predicate) l.len r.len a.0 a.1 b.0 b.1)
 
-      on_left : (o : Option (Reading P)) → reads-l bytes ≡ o → reads_both o reads-r bytes ≡ Some got → Exact got
+      on_left : (o : Option (Reading P)) → reads_l bytes ≡ o → reads_both o reads_r bytes ≡ Some got → Exact got
       on_left None is f = let z : ◌≡◌ {A = ℕ} 0 1 = cc in absurd (omega arith)
-      on_left (Some l) is f = on_right l is (reads-r (drop l.len bytes)) refl f
+      on_left (Some l) is f = on_right l is (reads_r (drop l.len bytes)) refl f
 
 -- how far a text behind another reaches
 pub behind_le : (bytes text : List ℕ) (n m : ℕ) → n ≤ length bytes → m ≡ length text → take (length bytes - n) (drop n bytes) ≡ text ++ drop m (take (length bytes - n) (drop n bytes)) → n + m ≤ length bytes

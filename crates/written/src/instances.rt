@@ -4,8 +4,11 @@ ghost use Rattle.std.specs.Prelude.{◌≡◌, ◌+◌, ◌%◌, ◌^◌, ◌++�
 ghost use Rattle.labels.specs.CutLists.{cuts_of};
 ghost use Rattle.written.specs.Hex.{hexes, hex_read};
 ghost use Rattle.written.specs.Texts.{reads_word, reads_both};
-ghost use Rattle.std.proofs.Common.{sym, ◌∙◌, ap, mod-eq_of_lt};
-ghost use Rattle.written.specs.Codecs.{word_exact, plain-hexes, both_exact};
+ghost use Rattle.labels.specs.declared.sum.Both.{Both};
+ghost use Rattle.std.proofs.Common.{sym, ◌∙◌, ap, mod-eq_of_lt, pow_pos};
+ghost use Rattle.std.proofs.lemmas.Nat.{mod_below};
+ghost use Rattle.bits.proofs.Lows.{bit_cut};
+ghost use Rattle.written.specs.Codecs.{fails_from_back, word_back, points_back, points_low, word_exact, plain-hexes, either_same, both_back, both_exact};
 ghost use Rattle.written.specs.Hexes.{length-hexes};
 ghost use Rattle.std.proofs.ByRecursion.{All-append};
 
@@ -18,9 +21,16 @@ impl WrittenAlgebra for StyleMarks {
 
     ghost reads = { λ _ bytes. reads_word (2 ^ 64) (hex_read 16 0 bytes) };
 
+    ghost back = { λ a p rest.
+        (p % 2 ^ 64, word_back (2 ^ 64) p rest (mod_below p (2 ^ 64) (pow_pos 64)), λ v. bit_cut p v) };
+
     ghost exact = { λ a bytes got e.
         let w = word_exact (2 ^ 64) bytes got e in
         (w.len ∙ sym (length-hexes 16 got.predicate), w.front) };
+
+    ghost fails = { λ a bytes e p rest is.
+        fails_from_back (hexes 16) (λ bs. reads_word (2 ^ 64) (hex_read 16 0 bs)) bytes e p rest _
+        (word_back (2 ^ 64) p rest (mod_below p (2 ^ 64) (pow_pos 64))) is };
 
     ghost plain = { λ a p. plain-hexes 16 p };
 
@@ -44,11 +54,17 @@ impl WrittenAlgebra for CodePoints {
 
     ghost reads = { λ a bytes. reads_word (2 ^ (length (cuts_of a.cuts) + 1)) (hex_read 16 0 bytes) };
 
+    ghost back = { λ a p rest. (p % 2 ^ (length (cuts_of a.cuts) + 1), points_back a.cuts p rest, points_low a.cuts p) };
+
     ghost exact = { λ a bytes got e.
         let limit = 2 ^ (length (cuts_of a.cuts) + 1) in
         let w = word_exact limit bytes got e in
         let low : got.predicate % limit ≡ got.predicate = mod-eq_of_lt w.small in
         (w.len ∙ sym (length-hexes 16 (got.predicate % limit)), w.front ∙ ap (λ n. hexes 16 n ++ drop got.len bytes) (sym low)) };
+
+    ghost fails = { λ a bytes e p rest is.
+        let limit = 2 ^ (length (cuts_of a.cuts) + 1) in
+        fails_from_back (λ q. hexes 16 (q % limit)) (λ bs. reads_word limit (hex_read 16 0 bs)) bytes e p rest _ (points_back a.cuts p rest) is };
 
     ghost plain = { λ a p. plain-hexes 16 (p % 2 ^ (length (cuts_of a.cuts) + 1)) };
 
@@ -75,9 +91,25 @@ impl<L: WrittenAlgebra, R: WrittenAlgebra> WrittenAlgebra for Sum<L, R> {
 
     ghost reads = { λ s bytes. reads_both (L.WrittenAlgebra.reads s.left bytes) (R.WrittenAlgebra.reads s.right) bytes };
 
+    ghost back = { λ a p rest.
+        let text_r = R.WrittenAlgebra.text a.right p.right in
+        let l = L.WrittenAlgebra.back a.left p.left (text_r ++ rest) in
+        let r = R.WrittenAlgebra.back a.right p.right rest in
+        (record { left = l.0; right = r.0 },
+          both_back (L.WrittenAlgebra.reads a.left) (R.WrittenAlgebra.reads a.right) (L.WrittenAlgebra.text a.left p.left) text_r rest l.0 r.0 l.1 r.1,
+          either_same _ _ _ _ l.2 r.2) };
+
     ghost exact = { λ a bytes got e.
         both_exact (L.WrittenAlgebra.reads a.left) (R.WrittenAlgebra.reads a.right) (L.WrittenAlgebra.text a.left) (R.WrittenAlgebra.text a.right) bytes got
         (L.WrittenAlgebra.exact a.left bytes) (R.WrittenAlgebra.exact a.right) e };
+
+    ghost fails = { λ a bytes e p rest is.
+        let text_r = R.WrittenAlgebra.text a.right p.right in
+        let l = L.WrittenAlgebra.back a.left p.left (text_r ++ rest) in
+        let r = R.WrittenAlgebra.back a.right p.right rest in
+        fails_from_back (λ (q : Both L.Predicate R.Predicate). L.WrittenAlgebra.text a.left q.left ++ R.WrittenAlgebra.text a.right q.right)
+        (λ bs. reads_both (L.WrittenAlgebra.reads a.left bs) (R.WrittenAlgebra.reads a.right) bs) bytes e p rest _
+        (both_back (L.WrittenAlgebra.reads a.left) (R.WrittenAlgebra.reads a.right) (L.WrittenAlgebra.text a.left p.left) text_r rest l.0 r.0 l.1 r.1) is };
 
     ghost plain = { λ a p. All-append _ (L.WrittenAlgebra.text a.left p.left) (R.WrittenAlgebra.text a.right p.right) (L.WrittenAlgebra.plain a.left p.left) (R.WrittenAlgebra.plain a.right p.right) };
 

@@ -1,4 +1,4 @@
-use Rattle.std.proofs.Common.{◌≡◌, ◌+◌, ◌-◌, ◌%◌, ◌^◌, ap, ◌∙◌, arith, rules}
+use Rattle.std.proofs.Common.{◌≡◌, ◌+◌, ◌%◌, ◌^◌, ap, ◌∙◌, arith, rules}
 use Rattle.bits.specs.Bit.{bit}
 use Rattle.bits.proofs.Lows.{low_mask, bit_low, word_mod}
 use Rattle.bits.proofs.low_bits.Goals as goal

@@ -10,7 +10,7 @@ loop-i-preserved c =
     let i = c.loop-i.i in
     let codes = c.args.codes.now in
     let made : c.new.result ≡ mark_of (get_or codes i 0) =
-    c.new.ensures ∙ ap₂ mark (c.is-set.ensures ∙ ap (λ n. bit n 0) c.from-code.ensures) (c.is-set-in-loop-i.ensures ∙ ap (λ n. bit n 1) c.from-code.ensures) in
+    c.new.ensures ∙ ap₂ mark (c.is_set.ensures ∙ ap (λ n. bit n 0) c.from-code.ensures) (c.is_set-in-loop-i.ensures ∙ ap (λ n. bit n 1) c.from-code.ensures) in
     copied_more mark_of codes c.loop-i.marks i 0 c.new.result c.loop-i-test.true (omega (arith, c.loop-i.auto.marks)) made c.loop-i.invariant
 
 pub returns : goal.returns

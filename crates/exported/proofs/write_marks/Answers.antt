@@ -8,8 +8,8 @@ pub loop-i-preserved : goal.loop-i-preserved
 loop-i-preserved c =
     let l = c.loop-i in
     let marks = c.args.marks.now in (
-      copied_more code_of marks l.codes l.i Neither c.code-of.result c.loop-i-test.true (omega (arith, l.auto.codes)) c.code-of.ensures l.invariant.0,
-      past_more c.args.codes.now l.codes (length marks) l.i c.code-of.result c.loop-i-test.true l.invariant.1,
+      copied_more code_of marks l.codes l.i Neither c.code_of.result c.loop-i-test.true (omega (arith, l.auto.codes)) c.code_of.ensures l.invariant.0,
+      past_more c.args.codes.now l.codes (length marks) l.i c.code_of.result c.loop-i-test.true l.invariant.1,
     )
 
 pub returns : goal.returns

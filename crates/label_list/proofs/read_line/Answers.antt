@@ -2,11 +2,11 @@ use Rattle.std.proofs.Common.{sym, arith}
 use Rattle.label_list.proofs.Says.{end_count, rest_shorter}
 use Rattle.label_list.proofs.read_line.Goals as goal
 
-pub read-label-requires : goal.read-label-requires
-read-label-requires g c =
-    omega (arith, rest_shorter c.args.line.now _ c.first-field-word.result.rest c.in-Some.rest c.in-Some.is c.first-field-word.ensures.cases)
+pub read_label-requires : goal.read_label-requires
+read_label-requires g c =
+    omega (arith, rest_shorter c.args.line.now _ c.first_field-word.result.rest c.in-Some.rest c.in-Some.is c.first_field-word.ensures.cases)
 
 pub returns-in-Some-default : goal.returns-in-Some-default
 returns-in-Some-default g c =
-    end_count (g.L.WrittenAlgebra.reads c.args.a.now) c.args.at c.args.line.now _ c.first-field-word.result.rest c.in-Some-default.field-0 c.in-Some-default.is c.first-field-word.ensures.value
-    (sym c.if-is-word.ensures) (sym c.if-is-word-2.ensures)
+    end_count (g.L.WrittenAlgebra.reads c.args.a.now) c.args.at c.args.line.now _ c.first_field-word.result.rest c.in-Some-default.field-0 c.in-Some-default.is c.first_field-word.ensures.value
+    (sym c.if-is_word.ensures) (sym c.if-is_word-2.ensures)

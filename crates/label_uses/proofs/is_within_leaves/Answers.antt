@@ -4,7 +4,7 @@ use Rattle.label_uses.proofs.is_within_leaves.Goals as goal
 
 pub returns : goal.returns
 returns c =
-    let within = c.is-within.ensures in (
+    let within = c.is_within.ensures in (
       λ t. record {
         first = λ x. within.0 t (Left (Left (Left x)));
         second = λ x. within.0 t (Left (Left (Right x)));

@@ -2,8 +2,8 @@ use Rattle.std.proofs.Common.{rules}
 use Rattle.lines.proofs.Numbers.{read_on_more, read_on_other, read_on_past, read_on_all}
 use Rattle.lines.proofs.read_digits.Goals as goal
 
-pub returns-in-err-to-digit : goal.returns-in-err-to-digit
-returns-in-err-to-digit c = search (rules, read_on_other)
+pub returns-in_err-to_digit : goal.returns-in_err-to_digit
+returns-in_err-to_digit c = search (rules, read_on_other)
 
 pub returns-then-n-from : goal.returns-then-n-from
 returns-then-n-from c = search (rules, read_on_more, read_on_past)

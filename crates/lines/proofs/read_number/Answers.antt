@@ -12,5 +12,5 @@ returns-in-48 c =
     let none = sym (number_in_zero c.args.most c.args.field.now (search rules) (search rules)) in
     record { value = none; cases = number_in_cases _ _ None (omega arith) none }
 
-pub returns-in-default : goal.returns-in-default
-returns-in-default c = search (rules, number_in_digits, number_in_cases)
+pub returns-in_default : goal.returns-in_default
+returns-in_default c = search (rules, number_in_digits, number_in_cases)

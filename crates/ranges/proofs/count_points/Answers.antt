@@ -7,16 +7,16 @@ use Rattle.ranges.proofs.count_points.Goals as goal
 pub loop-range-init : goal.loop-range-init
 loop-range-init c = (omega arith, sym (counted_none (holds_point c.args.a.now c.args.p)))
 
-pub overflow-add-total : goal.overflow-add-total
-overflow-add-total c = omega (arith, run_within c.args.a.now c.args.p _ _ _ c.in-Some.ensures)
+pub overflow_add-total : goal.overflow_add-total
+overflow_add-total c = omega (arith, run_within c.args.a.now c.args.p _ _ _ c.in-Some.ensures)
 
-pub overflow-add-total-in-Some : goal.overflow-add-total-in-Some
-overflow-add-total-in-Some c =
+pub overflow_add-total-in-Some : goal.overflow_add-total-in-Some
+overflow_add-total-in-Some c =
     let run = c.in-Some.ensures in
     omega (arith, run.low, run.order, run_within c.args.a.now c.args.p _ _ _ run, counted_le _ _ _ c.loop-range.invariant.1)
 
-pub overflow-add-from : goal.overflow-add-from
-overflow-add-from c = omega (arith, run_within c.args.a.now c.args.p _ _ _ c.in-Some.ensures)
+pub overflow_add-from : goal.overflow_add-from
+overflow_add-from c = omega (arith, run_within c.args.a.now c.args.p _ _ _ c.in-Some.ensures)
 
 pub loop-range-smaller : goal.loop-range-smaller
 loop-range-smaller c =
@@ -30,4 +30,4 @@ loop-range-preserved c =
 
 pub returns : goal.returns
 returns c =
-    omega (arith, counted_steady false (holds_point c.args.a.now c.args.p) c.loop-range.from 1114112 (omega arith) (λ k g h. c.in-default.ensures k g))
+    omega (arith, counted_steady false (holds_point c.args.a.now c.args.p) c.loop-range.from 1114112 (omega arith) (λ k g h. c.in_default.ensures k g))

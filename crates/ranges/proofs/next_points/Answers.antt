@@ -4,22 +4,22 @@ use Rattle.labels.specs.CutListsLemmas.{cuts_rising, segment_lt}
 use Rattle.ranges.proofs.Points.{no_points, points_order, run_points}
 use Rattle.ranges.proofs.next_points.Goals as goal
 
-pub overflow-cast-segment : goal.overflow-cast-segment
-overflow-cast-segment c = let l = segment_lt c.args.a.now.cuts c.args.from in omega (arith, c.segment.ensures)
+pub overflow_cast-segment : goal.overflow_cast-segment
+overflow_cast-segment c = let l = segment_lt c.args.a.now.cuts c.args.from in omega (arith, c.segment.ensures)
 
-pub returns-in-err-segments : goal.returns-in-err-segments
-returns-in-err-segments c = rw c.from-residual.ensures
-    (no_points (cuts_of c.args.a.now.cuts) (cuts_rising c.args.a.now.cuts) c.args.p _ _ c.len.ensures c.low-bits-real.ensures.bits
-    c.args.from _ c.segment.ensures c.in-err-segments.ensures)
+pub returns-in_err-segments : goal.returns-in_err-segments
+returns-in_err-segments c = rw c.from_residual.ensures
+    (no_points (cuts_of c.args.a.now.cuts) (cuts_rising c.args.a.now.cuts) c.args.p _ _ c.len.ensures c.low_bits-real.ensures.bits
+    c.args.from _ c.segment.ensures c.in_err-segments.ensures)
 
-pub overflow-sub-result : goal.overflow-sub-result
-overflow-sub-result c = omega (
+pub overflow_sub-result : goal.overflow_sub-result
+overflow_sub-result c = omega (
   arith,
-  points_order (cuts_of c.args.a.now.cuts) (cuts_rising c.args.a.now.cuts) c.args.p _ _ c.len.ensures c.low-bits-real.ensures.bits
-      c.args.from _ c.segment.ensures _ _ _ _ _ c.in-ok-segments.ensures c.start-first.ensures c.start-end.ensures (omega arith) c.max.ensures,
+  points_order (cuts_of c.args.a.now.cuts) (cuts_rising c.args.a.now.cuts) c.args.p _ _ c.len.ensures c.low_bits-real.ensures.bits
+      c.args.from _ c.segment.ensures _ _ _ _ _ c.in_ok-segments.ensures c.start-first.ensures c.start-end.ensures (omega arith) c.max.ensures,
 )
 
 pub returns : goal.returns
 returns c =
-    run_points (cuts_of c.args.a.now.cuts) (cuts_rising c.args.a.now.cuts) c.args.p _ _ c.len.ensures c.low-bits-real.ensures.bits
-    c.args.from _ c.segment.ensures _ _ _ _ _ c.in-ok-segments.ensures c.start-first.ensures c.start-end.ensures (omega arith) c.max.ensures
+    run_points (cuts_of c.args.a.now.cuts) (cuts_rising c.args.a.now.cuts) c.args.p _ _ c.len.ensures c.low_bits-real.ensures.bits
+    c.args.from _ c.segment.ensures _ _ _ _ _ c.in_ok-segments.ensures c.start-first.ensures c.start-end.ensures (omega arith) c.max.ensures

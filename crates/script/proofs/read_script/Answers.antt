@@ -5,9 +5,9 @@ use Rattle.script.proofs.Law.{no_line, script_from_parts, no_cuts, no_script}
 use Rattle.script.proofs.Says.{script_stop, script_fault, script_lines, script_refuses}
 use Rattle.script.proofs.read_script.Goals as goal
 
-pub returns-in-default : goal.returns-in-default
-returns-in-default c =
-    let none = c.in-default.ensures.value in
+pub returns-in_default : goal.returns-in_default
+returns-in_default c =
+    let none = c.in_default.ensures.value in
     record { value = script_stop c.args.text.now none; law = no_line c.args.text.now none }
 
 pub returns-in-Err : goal.returns-in-Err
@@ -20,31 +20,31 @@ returns-in-Err c =
       law = no_cuts text line rest c.in-Some.ensures.cases c.in-Err.ensures.law;
     }
 
-pub read-lines-requires : goal.read-lines-requires
-read-lines-requires c =
+pub read_lines-requires : goal.read_lines-requires
+read_lines-requires c =
     let long = length_parted 10 c.args.text.now c.in-Some.first.bytes.now c.in-Some.first.rest.now c.in-Some.ensures.cases in
     (omega (arith, long), omega arith)
 
-pub returns-in-Ok-read-lines : goal.returns-in-Ok-read-lines
-returns-in-Ok-read-lines c =
+pub returns-in-Ok-read_lines : goal.returns-in-Ok-read_lines
+returns-in-Ok-read_lines c =
     let text = c.args.text.now in
     let line = c.in-Some.first.bytes.now in
     let rest = c.in-Some.first.rest.now in
     let cuts = cuts_of c.in-Ok.cuts in
-    let draft = c.in-Ok-read-lines.draft in
+    let draft = c.in-Ok-read_lines.draft in
     record {
-      value = script_lines text line rest c.in-Some.ensures.value cuts (record { calls = vec_items draft.calls; symbols = vec_items draft.symbols }) c.in-Ok.ensures.value c.in-Ok-read-lines.ensures.value;
-      law = script_from_parts text line rest c.in-Some.ensures.cases cuts (record { calls = vec_items draft.calls; symbols = vec_items draft.symbols }) c.in-Ok.ensures.law c.in-Ok-read-lines.ensures.law;
+      value = script_lines text line rest c.in-Some.ensures.value cuts (record { calls = vec_items draft.calls; symbols = vec_items draft.symbols }) c.in-Ok.ensures.value c.in-Ok-read_lines.ensures.value;
+      law = script_from_parts text line rest c.in-Some.ensures.cases cuts (record { calls = vec_items draft.calls; symbols = vec_items draft.symbols }) c.in-Ok.ensures.law c.in-Ok-read_lines.ensures.law;
     }
 
-pub returns-in-Err-read-lines : goal.returns-in-Err-read-lines
-returns-in-Err-read-lines c =
+pub returns-in-Err-read_lines : goal.returns-in-Err-read_lines
+returns-in-Err-read_lines c =
     let text = c.args.text.now in
     let line = c.in-Some.first.bytes.now in
     let rest = c.in-Some.first.rest.now in
     let cuts = cuts_of c.in-Ok.cuts in
-    let why = c.in-Err-read-lines.refusal in
+    let why = c.in-Err-read_lines.refusal in
     record {
-      value = script_refuses text line rest c.in-Some.ensures.value cuts why c.in-Ok.ensures.value c.in-Err-read-lines.ensures.value;
-      law = no_script text line rest c.in-Some.ensures.cases cuts why c.in-Ok.ensures.value c.in-Err-read-lines.ensures.law;
+      value = script_refuses text line rest c.in-Some.ensures.value cuts why c.in-Ok.ensures.value c.in-Err-read_lines.ensures.value;
+      law = no_script text line rest c.in-Some.ensures.cases cuts why c.in-Ok.ensures.value c.in-Err-read_lines.ensures.law;
     }

@@ -4,4 +4,4 @@ use Rattle.bits.proofs.matrix.is_kept.Goals as goal
 
 pub returns : goal.returns
 unfolding pair
-returns c = rw (lt-ltb c.args.q 256 c.requires.column) c.is-set.ensures
+returns c = rw (lt-ltb c.args.q 256 c.requires.column) c.is_set.ensures

@@ -5,8 +5,8 @@ use Rattle.engine.proofs.Sums.{pairs_most}
 use Rattle.engine.proofs.Striking.{columned_more, columned_all}
 use Rattle.engine.proofs.columns.column.Goals as goal
 
-pub overflow-add-struck : goal.overflow-add-struck
-overflow-add-struck g c = omega (arith, pairs_most (pair c.args.rows.now) (size c.args.book.now) c.requires.ready.states, c.loop-t.invariant.0.0.count, c.strike-struck.ensures.swept.count)
+pub overflow_add-struck : goal.overflow_add-struck
+overflow_add-struck g c = omega (arith, pairs_most (pair c.args.rows.now) (size c.args.book.now) c.requires.ready.states, c.loop-t.invariant.0.0.count, c.strike-struck.ensures.swept.count)
 
 pub loop-t-preserved : goal.loop-t-preserved
 loop-t-preserved g c =

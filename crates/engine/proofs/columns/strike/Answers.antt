@@ -7,10 +7,10 @@ use Rattle.engine.proofs.Gathering.{gathered_less}
 use Rattle.engine.proofs.Places.{entering_end}
 use Rattle.engine.proofs.Striking.{swept_none, striking_none, met_apart, striking_past, striking_met, striking_more, striking_all}
 use Rattle.engine.proofs.columns.strike.Goals as goal
-use Rattle.engine.proofs.columns.strike.Goals.{then-is-kept+then-not-is-within, then-is-kept+else-not-is-within, else-is-kept}
+use Rattle.engine.proofs.columns.strike.Goals.{then-is_kept+then-not-is_within, then-is_kept+else-not-is_within, else-is_kept}
 
-pub returns-then-not-is-entered : goal.returns-then-not-is-entered
-returns-then-not-is-entered g c =
+pub returns-then-not-is_entered : goal.returns-then-not-is_entered
+returns-then-not-is_entered g c =
     let h = g.L.LabelAlgebra.holds c.args.labels.now in
     let b = c.args.book.now in
     let r = c.requires.ready in
@@ -18,7 +18,7 @@ returns-then-not-is-entered g c =
     record {
       swept = swept_none (machine h b) old;
       only = λ _ _ _. refl;
-      met = met_apart h b.marks.now b.arrows.now c.args.q c.args.t b.entering.places (get_or b.entering.low c.args.t 0) old b.preds c.args.below.now r.within r.preds c.requires.wide c.requires.gathered (c.is-entered.ensures c.if-not-is-entered.true);
+      met = met_apart h b.marks.now b.arrows.now c.args.q c.args.t b.entering.places (get_or b.entering.low c.args.t 0) old b.preds c.args.below.now r.within r.preds c.requires.wide c.requires.gathered (c.is_entered.ensures c.if-not-is_entered.true);
       gathered = c.requires.gathered;
     }
 
@@ -28,8 +28,8 @@ loop-i-init g c =
     let t = c.args.t in
     (striking_none (g.L.LabelAlgebra.holds c.args.labels.now) b.marks.now b.arrows.now c.args.q t b.entering.places (get_or b.entering.low t 0) c.args.rows.now, c.requires.gathered)
 
-pub is-kept-requires : goal.is-kept-requires
-is-kept-requires g c =
+pub is_kept-requires : goal.is_kept-requires
+is_kept-requires g c =
     let r = c.requires.ready in
     record { row = omega (arith, entering_end c.args.book.now r c.args.t c.loop-i.i (omega arith) c.loop-i.auto.i c.loop-i-test.true, r.states); column = omega (arith, r.states) }
 
@@ -38,13 +38,13 @@ clear-requires g c =
     let r = c.requires.ready in
     record { row = omega (arith, entering_end c.args.book.now r c.args.t c.loop-i.i (omega arith) c.loop-i.auto.i c.loop-i-test.true, r.states); column = omega (arith, r.states) }
 
-pub clear-requires-then-not-is-within : goal.clear-requires-then-not-is-within
-clear-requires-then-not-is-within g c =
+pub clear-requires-then-not-is_within : goal.clear-requires-then-not-is_within
+clear-requires-then-not-is_within g c =
     let r = c.requires.ready in
     record { row = omega (arith, c.loop-i.invariant.1.words); column = omega (arith, entering_end c.args.book.now r c.args.t c.loop-i.i (omega arith) c.loop-i.auto.i c.loop-i-test.true, r.states) }
 
-pub overflow-add-struck : goal.overflow-add-struck
-overflow-add-struck g c = omega (arith, pairs_most (pair c.args.rows.now) (size c.args.book.now) c.requires.ready.states, c.loop-i.invariant.0.0.count)
+pub overflow_add-struck : goal.overflow_add-struck
+overflow_add-struck g c = omega (arith, pairs_most (pair c.args.rows.now) (size c.args.book.now) c.requires.ready.states, c.loop-i.invariant.0.0.count)
 
 pub loop-i-preserved : goal.loop-i-preserved
 loop-i-preserved g c =
@@ -59,21 +59,21 @@ loop-i-preserved g c =
     let high = get_or b.entering.high t 0 in
     let i = c.loop-i.i in
     let from = c.loop-i.auto.i in
-    elim c.if-is-kept.branch [
-      | then-is-kept+then-not-is-within w ↦ rw (w.rows-is, w.below-is, w.struck-is) (
+    elim c.if-is_kept.branch [
+      | then-is_kept+then-not-is_within w ↦ rw (w.rows-is, w.below-is, w.struck-is) (
         striking_more h b.marks.now b.arrows.now q t b.entering.places low old b.entering.ends high s c.answers-all.result c.answers-all.ensures
-            c.loop-i.rows w.clear.new.rows c.loop-i.struck i w.index-arrows-book.result r.within c.requires.states.0 from c.loop-i-test.true (sym c.is-kept.ensures ∙ w.if-is-kept.true)
-            (not_from_Decides w.is-within.result w.is-within.ensures w.if-not-is-within.true) w.clear.ensures c.loop-i.invariant.0,
-        gathered_less (size b) q (get_or b.entering.ends i 0) c.loop-i.rows w.clear.new.rows c.loop-i.below w.clear-then-not-is-within.new.rows w.clear.ensures w.clear-then-not-is-within.ensures (w.clear-then-not-is-within.auto.rows ∙ c.loop-i.invariant.1.words) c.loop-i.invariant.1,
+            c.loop-i.rows w.clear.new.rows c.loop-i.struck i w.index-arrows-book.result r.within c.requires.states.0 from c.loop-i-test.true (sym c.is_kept.ensures ∙ w.if-is_kept.true)
+            (not_from_Decides w.is_within.result w.is_within.ensures w.if-not-is_within.true) w.clear.ensures c.loop-i.invariant.0,
+        gathered_less (size b) q (get_or b.entering.ends i 0) c.loop-i.rows w.clear.new.rows c.loop-i.below w.clear-then-not-is_within.new.rows w.clear.ensures w.clear-then-not-is_within.ensures (w.clear-then-not-is_within.auto.rows ∙ c.loop-i.invariant.1.words) c.loop-i.invariant.1,
       )
-      | then-is-kept+else-not-is-within w ↦ rw (w.rows-is, w.below-is, w.struck-is) (
+      | then-is_kept+else-not-is_within w ↦ rw (w.rows-is, w.below-is, w.struck-is) (
         striking_met h b.marks.now b.arrows.now q t b.entering.places low old b.entering.ends high s c.answers-all.result c.answers-all.ensures
-            c.loop-i.rows c.loop-i.struck i w.index-arrows-book.result from c.loop-i-test.true (w.is-within.ensures.0 w.if-not-is-within.false) c.loop-i.invariant.0,
+            c.loop-i.rows c.loop-i.struck i w.index-arrows-book.result from c.loop-i-test.true (w.is_within.ensures.0 w.if-not-is_within.false) c.loop-i.invariant.0,
         c.loop-i.invariant.1,
       )
-      | else-is-kept w ↦ rw (w.rows-is, w.below-is, w.struck-is) (
+      | else-is_kept w ↦ rw (w.rows-is, w.below-is, w.struck-is) (
         striking_past h b.marks.now b.arrows.now q t b.entering.places low old b.entering.ends high s
-            c.loop-i.rows c.loop-i.struck i from c.loop-i-test.true (sym c.is-kept.ensures ∙ w.if-is-kept.false) c.loop-i.invariant.0,
+            c.loop-i.rows c.loop-i.struck i from c.loop-i-test.true (sym c.is_kept.ensures ∙ w.if-is_kept.false) c.loop-i.invariant.0,
         c.loop-i.invariant.1,
       )
     ]

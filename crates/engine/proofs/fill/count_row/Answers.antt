@@ -3,20 +3,20 @@ use Rattle.bits.specs.Matrix.{pair}
 use Rattle.automata.specs.Below.{count}
 use Rattle.engine.proofs.Sums.{sum_none, sum_more, count_most}
 use Rattle.engine.proofs.fill.count_row.Goals as goal
-use Rattle.engine.proofs.fill.count_row.Goals.{then-is-kept, else-is-kept}
+use Rattle.engine.proofs.fill.count_row.Goals.{then-is_kept, else-is_kept}
 
 pub loop-q-init : goal.loop-q-init
 loop-q-init c = sum_none _
 
-pub overflow-add-number : goal.overflow-add-number
-overflow-add-number c = omega (arith, c.loop-q.invariant, count_most (pair c.args.rows.now c.args.p) c.loop-q.q)
+pub overflow_add-number : goal.overflow_add-number
+overflow_add-number c = omega (arith, c.loop-q.invariant, count_most (pair c.args.rows.now c.args.p) c.loop-q.q)
 
 pub loop-q-preserved : goal.loop-q-preserved
 loop-q-preserved c =
-    let one : ℕ = cond c.is-kept.result 1 0 in
+    let one : ℕ = cond c.is_kept.result 1 0 in
     let more : c.loop-q.number + one ≡ count (pair c.args.rows.now c.args.p) (c.loop-q.q + 1) =
-    sum_more (λ q. cond (pair c.args.rows.now c.args.p q) 1 0) c.loop-q.number one c.loop-q.q c.loop-q.invariant (ap (λ b. cond b 1 0) c.is-kept.ensures) in
-    elim c.if-is-kept.branch [
-      | then-is-kept w ↦ w.number-is ∙ rw w.if-is-kept.true at more
-      | else-is-kept w ↦ w.number-is ∙ omega (arith, rw w.if-is-kept.false at more)
+    sum_more (λ q. cond (pair c.args.rows.now c.args.p q) 1 0) c.loop-q.number one c.loop-q.q c.loop-q.invariant (ap (λ b. cond b 1 0) c.is_kept.ensures) in
+    elim c.if-is_kept.branch [
+      | then-is_kept w ↦ w.number-is ∙ rw w.if-is_kept.true at more
+      | else-is_kept w ↦ w.number-is ∙ omega (arith, rw w.if-is_kept.false at more)
     ]

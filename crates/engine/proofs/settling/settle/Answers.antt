@@ -24,5 +24,5 @@ returns g c =
       keeps = ((simulations _).keeps (automaton h marks xs) (pair last)).0 greatest;
       greatest = greatest;
       empty = settled_empty marks first last c.fill.ensures s.fewer;
-      count = c.count-pairs.ensures;
+      count = c.count_pairs.ensures;
     }

@@ -25,9 +25,9 @@ loop-value-preserved g c =
           (λ q. led_alone 256 q (get_or next q false) (c.step.ensures q)) c.loop-value.invariant.1,
     )
 
-pub some-accepts-requires : goal.some-accepts-requires
-some-accepts-requires g c = omega (arith, c.loop-value.invariant.0, c.requires.states)
+pub some_accepts-requires : goal.some_accepts-requires
+some_accepts-requires g c = omega (arith, c.loop-value.invariant.0, c.requires.states)
 
 pub returns : goal.returns
 returns g c =
-    tested_all (automaton (g.L.LabelAlgebra.holds c.args.labels.now) c.args.marks.now c.args.arrows.now) c.args.word.now c.loop-value.live c.loop-value.value-index c.some-accepts.result (omega arith) c.loop-value.invariant.1 c.some-accepts.ensures
+    tested_all (automaton (g.L.LabelAlgebra.holds c.args.labels.now) c.args.marks.now c.args.arrows.now) c.args.word.now c.loop-value.live c.loop-value.value-index c.some_accepts.result (omega arith) c.loop-value.invariant.1 c.some_accepts.ensures

@@ -17,7 +17,7 @@ loop-p-preserved c =
     let p = c.loop-p.p in
     let lt : p < length live = omega (arith, c.loop-p.invariant.0) in (
       simp length-set (omega (arith, c.loop-p.invariant.0)),
-      row_more A (λ j. get_or live j false) (λ j. get_or (set live p c.is-initial.result) j false) p c.loop-p.invariant.1 (get_or-set_same live p c.is-initial.result false lt ∙ c.is-initial.ensures) (λ j ne. get_or-set_other live p j c.is-initial.result false ne),
+      row_more A (λ j. get_or live j false) (λ j. get_or (set live p c.is_initial.result) j false) p c.loop-p.invariant.1 (get_or-set_same live p c.is_initial.result false lt ∙ c.is_initial.ensures) (λ j ne. get_or-set_other live p j c.is_initial.result false ne),
     )
 
 pub returns : goal.returns

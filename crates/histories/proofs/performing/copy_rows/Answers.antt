@@ -12,6 +12,6 @@ returns-then-to-words g c =
     let k = c.if-to-words.true in
     let p = part_is c.args.from c.args.to c.args.words.now h k in
     record {
-      says = rw p c.copy-into.ensures.says;
-      copies = rw p (copies_part c.args.from c.args.to _ _ c.args.words.now c.copy-into.new.words h k (search rules) _ c.copy-into.ensures.copies);
+      says = rw p c.copy_into.ensures.says;
+      copies = rw p (copies_part c.args.from c.args.to _ _ c.args.words.now c.copy_into.new.words h k (search rules) _ c.copy_into.ensures.copies);
     }

@@ -25,11 +25,11 @@ returns-in-AddState g c =
     let L = g.L.LabelAlgebra in
     let a = c.args in
     let m = moment a.book.now a.target.now a.words.now in
-    let e = c.add-state.ensures in
-    let b = c.add-state.new.book in
+    let e = c.add_state.ensures in
+    let b = c.add_state.new.book in
     let d = state_added (view a.book.now) _ c.in-AddState.ticket c.in-AddState.mark refl in
     record {
-      step = step_of c.in-AddState.is (edit_step a.text.now (L.holds a.labels.now) (L.satisfiable a.labels.now) m (moment b a.target.now a.words.now) (call.AddState c.in-AddState.ticket c.in-AddState.mark) c.add-state.result e.leaves d e.keeps (record { target = refl; order = refl; words = refl }) e.says);
+      step = step_of c.in-AddState.is (edit_step a.text.now (L.holds a.labels.now) (L.satisfiable a.labels.now) m (moment b a.target.now a.words.now) (call.AddState c.in-AddState.ticket c.in-AddState.mark) c.add_state.result e.leaves d e.keeps (record { target = refl; order = refl; words = refl }) e.says);
       held = held_edited (view a.book.now) _ (view b) a.held e.leaves d c.requires;
       lent = e.lent;
       aimed = refl;
@@ -40,11 +40,11 @@ returns-in-ReMark g c =
     let L = g.L.LabelAlgebra in
     let a = c.args in
     let m = moment a.book.now a.target.now a.words.now in
-    let e = c.re-mark.ensures in
-    let b = c.re-mark.new.book in
+    let e = c.re_mark.ensures in
+    let b = c.re_mark.new.book in
     let d = re_marked (view a.book.now) _ c.in-ReMark.ticket c.in-ReMark.state c.in-ReMark.mark refl in
     record {
-      step = step_of c.in-ReMark.is (edit_step a.text.now (L.holds a.labels.now) (L.satisfiable a.labels.now) m (moment b a.target.now a.words.now) (call.ReMark c.in-ReMark.ticket c.in-ReMark.state c.in-ReMark.mark) c.re-mark.result e.leaves d e.keeps (record { target = refl; order = refl; words = refl }) e.says);
+      step = step_of c.in-ReMark.is (edit_step a.text.now (L.holds a.labels.now) (L.satisfiable a.labels.now) m (moment b a.target.now a.words.now) (call.ReMark c.in-ReMark.ticket c.in-ReMark.state c.in-ReMark.mark) c.re_mark.result e.leaves d e.keeps (record { target = refl; order = refl; words = refl }) e.says);
       held = held_edited (view a.book.now) _ (view b) a.held e.leaves d c.requires;
       lent = e.lent;
       aimed = refl;
@@ -55,11 +55,11 @@ returns-in-AddArrow g c =
     let L = g.L.LabelAlgebra in
     let a = c.args in
     let m = moment a.book.now a.target.now a.words.now in
-    let e = c.add-arrow.ensures in
-    let b = c.add-arrow.new.book in
+    let e = c.add_arrow.ensures in
+    let b = c.add_arrow.new.book in
     let d = arrow_added (view a.book.now) _ c.in-AddArrow.ticket c.in-AddArrow.source c.in-AddArrow.label c.in-AddArrow.target (L.satisfiable a.labels.now c.in-AddArrow.label) refl in
     record {
-      step = step_of c.in-AddArrow.is (edit_step a.text.now (L.holds a.labels.now) (L.satisfiable a.labels.now) m (moment b a.target.now a.words.now) (call.AddArrow c.in-AddArrow.ticket c.in-AddArrow.source c.in-AddArrow.label c.in-AddArrow.target) c.add-arrow.result e.leaves d e.keeps (record { target = refl; order = refl; words = refl }) e.says);
+      step = step_of c.in-AddArrow.is (edit_step a.text.now (L.holds a.labels.now) (L.satisfiable a.labels.now) m (moment b a.target.now a.words.now) (call.AddArrow c.in-AddArrow.ticket c.in-AddArrow.source c.in-AddArrow.label c.in-AddArrow.target) c.add_arrow.result e.leaves d e.keeps (record { target = refl; order = refl; words = refl }) e.says);
       held = held_edited (view a.book.now) _ (view b) a.held e.leaves d c.requires;
       lent = e.lent;
       aimed = refl;
@@ -110,9 +110,9 @@ returns-in-CopyRows g c =
     let L = g.L.LabelAlgebra in
     let a = c.args in
     let m = moment a.book.now a.target.now a.words.now in
-    let e = c.copy-rows.ensures in
+    let e = c.copy_rows.ensures in
     record {
-      step = step_of c.in-CopyRows.is (copy_step a.text.now (L.holds a.labels.now) (L.satisfiable a.labels.now) m (moment a.book.now a.target.now c.copy-rows.new.words) c.in-CopyRows.from c.in-CopyRows.to c.copy-rows.result e.says refl refl (record { target = refl; order = refl; words = e.copies }));
+      step = step_of c.in-CopyRows.is (copy_step a.text.now (L.holds a.labels.now) (L.satisfiable a.labels.now) m (moment a.book.now a.target.now c.copy_rows.new.words) c.in-CopyRows.from c.in-CopyRows.to c.copy_rows.result e.says refl refl (record { target = refl; order = refl; words = e.copies }));
       held = c.requires;
       lent = refl;
       aimed = refl;
@@ -124,7 +124,7 @@ returns-in-TestWord g c =
     let a = c.args in
     let m = moment a.book.now a.target.now a.words.now in
     record {
-      step = step_of c.in-TestWord.is (word_step a.text.now (L.holds a.labels.now) (L.satisfiable a.labels.now) m m c.in-TestWord.from c.in-TestWord.to c.test-word-accepted.result (rw c.part-of.ensures at c.test-word-accepted.ensures) refl refl (record { target = refl; order = refl; words = refl }));
+      step = step_of c.in-TestWord.is (word_step a.text.now (L.holds a.labels.now) (L.satisfiable a.labels.now) m m c.in-TestWord.from c.in-TestWord.to c.test_word-accepted.result (rw c.part_of.ensures at c.test_word-accepted.ensures) refl refl (record { target = refl; order = refl; words = refl }));
       held = c.requires;
       lent = refl;
       aimed = refl;

@@ -16,11 +16,11 @@ bounds-first-c g c = (All-get_or _ c.args.arrows.now c.loop-k.k c.index-arrows-k
 pub bounds-first-c-in-loop-k : goal.bounds-first-c-in-loop-k
 bounds-first-c-in-loop-k g c = (All-get_or _ c.args.arrows.now c.loop-k.k c.index-arrows-k.result c.loop-k-test.true c.requires.1).1
 
-pub offset-bounds-first-c : goal.offset-bounds-first-c
-offset-bounds-first-c g c = omega (arith, (All-get_or _ c.args.arrows.now c.loop-k.k c.index-arrows-k.result c.loop-k-test.true c.requires.1).1)
+pub offset_bounds-first-c : goal.offset_bounds-first-c
+offset_bounds-first-c g c = omega (arith, (All-get_or _ c.args.arrows.now c.loop-k.k c.index-arrows-k.result c.loop-k-test.true c.requires.1).1)
 
-pub offset-bounds-first-c-in-loop-k : goal.offset-bounds-first-c-in-loop-k
-offset-bounds-first-c-in-loop-k g c = omega (arith, (All-get_or _ c.args.arrows.now c.loop-k.k c.index-arrows-k.result c.loop-k-test.true c.requires.1).1)
+pub offset_bounds-first-c-in-loop-k : goal.offset_bounds-first-c-in-loop-k
+offset_bounds-first-c-in-loop-k g c = omega (arith, (All-get_or _ c.args.arrows.now c.loop-k.k c.index-arrows-k.result c.loop-k-test.true c.requires.1).1)
 
 pub loop-k-preserved : goal.loop-k-preserved
 loop-k-preserved g c =

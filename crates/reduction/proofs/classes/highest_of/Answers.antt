@@ -5,7 +5,7 @@ pub loop-c-preserved : goal.loop-c-preserved
 loop-c-preserved c = (
   below_more _ _
       (λ k h. let ne : k ≢ c.loop-c.c = omega arith in rw get_or-set_other (c.loop-c.invariant.0 k h))
-      (let lt : c.loop-c.c < length c.loop-c.top = omega arith in rw get_or-set_same c.is-highest.ensures),
+      (let lt : c.loop-c.c < length c.loop-c.top = omega arith in rw get_or-set_same c.is_highest.ensures),
   length-set c.loop-c.top _ _ ∙ c.loop-c.invariant.1,
 )
 

@@ -26,8 +26,8 @@ loop-p-preserved c =
     let p = c.loop-p.p in
     let i = c.loop-p.invariant in
     let low = c.requires.1 p (omega arith) in (
-      λ K named. marked_more K (λ p. mark_is_start (get_or c.args.marks.now p Neither)) c.loop-p.initial p _ c.is-initial.result (named p c.loop-p-test.true) (omega (arith, low, i.2)) c.is-initial.ensures (i.0 K named),
-      λ K named. marked_more K (λ p. mark_accepts (get_or c.args.marks.now p Neither)) c.loop-p.accepting p _ c.is-accepting.result (named p c.loop-p-test.true) (omega (arith, low, i.3)) c.is-accepting.ensures (i.1 K named),
+      λ K named. marked_more K (λ p. mark_is_start (get_or c.args.marks.now p Neither)) c.loop-p.initial p _ c.is_initial.result (named p c.loop-p-test.true) (omega (arith, low, i.2)) c.is_initial.ensures (i.0 K named),
+      λ K named. marked_more K (λ p. mark_accepts (get_or c.args.marks.now p Neither)) c.loop-p.accepting p _ c.is_accepting.result (named p c.loop-p-test.true) (omega (arith, low, i.3)) c.is_accepting.ensures (i.1 K named),
       length-set c.loop-p.initial _ _ ∙ i.2,
       length-set c.loop-p.accepting _ _ ∙ i.3,
     )

@@ -2,7 +2,7 @@ use Rattle.std.proofs.Common.{sym, ◌∙◌, arith}
 use Rattle.bits.specs.Matrix.{pair}
 use Rattle.reduction.proofs.Gathering.{gathers_none, gathers_low, gathers_high, gathers_off, gathers_pruned}
 use Rattle.reduction.proofs.pruning.pruned.Goals as goal
-use Rattle.reduction.proofs.pruning.pruned.Goals.{then-e-d, else-e-d+then-is-kept, else-e-d+else-is-kept}
+use Rattle.reduction.proofs.pruning.pruned.Goals.{then-e-d, else-e-d+then-is_kept, else-e-d+else-is_kept}
 
 pub loop-at-init : goal.loop-at-init
 loop-at-init g c = gathers_none _ _ _ _ _ _ _ c.requires.sorted.chained c.none-merged.result c.none-over.result (omega (arith, c.requires.here.0, c.requires.bounded.states)) c.none-merged.ensures c.none-over.ensures
@@ -13,12 +13,12 @@ loop-at-preserved g c =
     let h = g.L.LabelAlgebra.holds b.labels.now in
     let K = pair b.rows.now in
     let l = c.loop-at in
-    let x = c.arrow-at-label.result in
-    let e = c.target-of-e.result in
+    let x = c.arrow_at-label.result in
+    let e = c.target_of-e.result in
     elim c.if-e-d.branch [
-      | then-e-d w ↦ rw (w.merged-is, w.over-is) (gathers_low h K c.args.c c.args.d b.arrows.now _ _ c.requires.sorted.chained l.merged l.over l.at c.loop-at-test.true x c.arrow-at-label.ensures e c.target-of-e.ensures.value l.invariant w.if-e-d.true w.join-merged.result w.join-merged.ensures)
-      | else-e-d+then-is-kept w ↦ rw (w.merged-is, w.over-is) (gathers_high h K c.args.c c.args.d b.arrows.now _ _ c.requires.sorted.chained l.merged l.over l.at c.loop-at-test.true x c.arrow-at-label.ensures e c.target-of-e.ensures.value l.invariant w.if-e-d.false (sym w.is-kept.ensures ∙ w.if-is-kept.true) w.join-over.result w.join-over.ensures)
-      | else-e-d+else-is-kept w ↦ rw (w.merged-is, w.over-is) (gathers_off h K c.args.c c.args.d b.arrows.now _ _ c.requires.sorted.chained l.merged l.over l.at c.loop-at-test.true x c.arrow-at-label.ensures e c.target-of-e.ensures.value l.invariant w.if-e-d.false (sym w.is-kept.ensures ∙ w.if-is-kept.false))
+      | then-e-d w ↦ rw (w.merged-is, w.over-is) (gathers_low h K c.args.c c.args.d b.arrows.now _ _ c.requires.sorted.chained l.merged l.over l.at c.loop-at-test.true x c.arrow_at-label.ensures e c.target_of-e.ensures.value l.invariant w.if-e-d.true w.join-merged.result w.join-merged.ensures)
+      | else-e-d+then-is_kept w ↦ rw (w.merged-is, w.over-is) (gathers_high h K c.args.c c.args.d b.arrows.now _ _ c.requires.sorted.chained l.merged l.over l.at c.loop-at-test.true x c.arrow_at-label.ensures e c.target_of-e.ensures.value l.invariant w.if-e-d.false (sym w.is_kept.ensures ∙ w.if-is_kept.true) w.join-over.result w.join-over.ensures)
+      | else-e-d+else-is_kept w ↦ rw (w.merged-is, w.over-is) (gathers_off h K c.args.c c.args.d b.arrows.now _ _ c.requires.sorted.chained l.merged l.over l.at c.loop-at-test.true x c.arrow_at-label.ensures e c.target_of-e.ensures.value l.invariant w.if-e-d.false (sym w.is_kept.ensures ∙ w.if-is_kept.false))
     ]
 
 pub returns : goal.returns

@@ -35,6 +35,6 @@ returns g c =
     let b = c.args.book.now in
     let M = Pruned (automaton (g.L.LabelAlgebra.holds b.labels.now) b.marks.now b.arrows.now) (pair b.rows.now) in
     record {
-      told = walked_told M _ _ _ c.in-default.ensures c.loop-c.invariant.0;
-      stays = walked_stays M _ _ _ c.in-default.ensures c.loop-c.invariant.0;
+      told = walked_told M _ _ _ c.in_default.ensures c.loop-c.invariant.0;
+      stays = walked_stays M _ _ _ c.in_default.ensures c.loop-c.invariant.0;
     }

@@ -3,7 +3,7 @@ use Rattle.bits.specs.Matrix.{pair}
 use Rattle.reduction.specs.Drawn.{linked_at}
 use Rattle.reduction.proofs.Rows.{row_none, row_on, row_off}
 use Rattle.reduction.proofs.writing.keep_row.Goals as goal
-use Rattle.reduction.proofs.writing.keep_row.Goals.{then-is-under, else-is-under}
+use Rattle.reduction.proofs.writing.keep_row.Goals.{then-is_under, else-is_under}
 
 pub loop-j-init : goal.loop-j-init
 loop-j-init c = row_none _ _ _ c.requires.empty
@@ -11,9 +11,9 @@ loop-j-init c = row_none _ _ _ c.requires.empty
 pub loop-j-preserved : goal.loop-j-preserved
 loop-j-preserved c =
     let A : ℕ → Bool = λ j. eqb c.args.i j || linked_at (pair c.args.rows.now) c.args.staying.now c.args.i j in
-    elim c.if-is-under.branch [
-      | then-is-under w ↦ rw w.into-is (row_on A c.args.into.now c.args.i c.loop-j.into w.keep.new.rows c.loop-j.j (sym c.is-under.ensures ∙ w.if-is-under.true) w.keep.ensures c.loop-j.invariant)
-      | else-is-under w ↦ rw w.into-is (row_off A c.args.into.now c.args.i c.loop-j.into c.loop-j.j (sym c.is-under.ensures ∙ w.if-is-under.false) c.loop-j.invariant)
+    elim c.if-is_under.branch [
+      | then-is_under w ↦ rw w.into-is (row_on A c.args.into.now c.args.i c.loop-j.into w.keep.new.rows c.loop-j.j (sym c.is_under.ensures ∙ w.if-is_under.true) w.keep.ensures c.loop-j.invariant)
+      | else-is_under w ↦ rw w.into-is (row_off A c.args.into.now c.args.i c.loop-j.into c.loop-j.j (sym c.is_under.ensures ∙ w.if-is_under.false) c.loop-j.invariant)
     ]
 
 pub returns : goal.returns

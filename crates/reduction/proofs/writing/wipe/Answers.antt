@@ -5,7 +5,7 @@ use Rattle.reduction.proofs.Blank.{pair_zero}
 use Rattle.reduction.proofs.writing.wipe.Goals as goal
 
 pub loop-i-preserved : goal.loop-i-preserved
-loop-i-preserved c = rw c.put-word.ensures (
+loop-i-preserved c = rw c.put_word.ensures (
     below_more _ _
     (λ k h. let ne : k ≢ c.loop-i.i = omega arith in rw get_or-set_other (c.loop-i.invariant k h))
     (let lt : c.loop-i.i < length c.loop-i.rows = omega arith in rw get_or-set_same))

@@ -10,8 +10,8 @@ use Rattle.reduction.proofs.writing.write_arrows.Goals as goal
 pub loop-i-init : goal.loop-i-init
 loop-i-init g c = drawn_none _ _ _ _ _
 
-pub write-row-used-requires : goal.write-row-used-requires
-write-row-used-requires g c =
+pub write_row-used-requires : goal.write_row-used-requires
+write_row-used-requires g c =
     let s = c.args.staying.now in
     record {
       bounded = c.requires.bounded;

@@ -6,13 +6,13 @@ use Rattle.bits.specs.Matrix.{pair}
 use Rattle.reduction.specs.Drawn.{linked_at, reads_at}
 use Rattle.reduction.proofs.Listing.{so_far_none, so_far_more, so_far_skip, so_far_all, so_far_room}
 use Rattle.reduction.proofs.writing.write_row.Goals as goal
-use Rattle.reduction.proofs.writing.write_row.Goals.{then-is-kept, else-is-kept}
+use Rattle.reduction.proofs.writing.write_row.Goals.{then-is_kept, else-is_kept}
 
 pub loop-j-init : goal.loop-j-init
 loop-j-init g c = so_far_none _ _ _ _ _ _ _ c.requires.before
 
-pub is-kept-requires : goal.is-kept-requires
-is-kept-requires g c =
+pub is_kept-requires : goal.is_kept-requires
+is_kept-requires g c =
     let low = c.requires.here.1.1.1 in
     let s = c.args.staying.now in
     record { row = omega (arith, All-get_or _ s c.args.i 0 c.requires.here.1.0 low, c.requires.bounded.states, c.requires.here.0); column = omega (arith, All-get_or _ s c.loop-j.j 0 c.loop-j-test.true low, c.requires.bounded.states) }
@@ -24,10 +24,10 @@ pruned-label-requires g c =
     record { bounded = c.requires.bounded; sorted = c.requires.sorted; here = (All-get_or _ s c.args.i 0 c.requires.here.1.0 low, All-get_or _ s c.loop-j.j 0 c.loop-j-test.true low) }
 
 pub put-requires : goal.put-requires
-put-requires g c = so_far_room _ _ (linked_at (pair c.args.links.now) c.args.staying.now) (length c.args.staying.now) c.args.i c.loop-j.j c.loop-j.used c.loop-j.into (length c.loop-j.into) (sym c.is-kept.ensures ∙ c.if-is-kept.true) c.loop-j-test.true (omega (arith, c.requires.room, c.loop-j.auto.into)) c.loop-j.invariant
+put-requires g c = so_far_room _ _ (linked_at (pair c.args.links.now) c.args.staying.now) (length c.args.staying.now) c.args.i c.loop-j.j c.loop-j.used c.loop-j.into (length c.loop-j.into) (sym c.is_kept.ensures ∙ c.if-is_kept.true) c.loop-j-test.true (omega (arith, c.requires.room, c.loop-j.auto.into)) c.loop-j.invariant
 
-pub overflow-add-used : goal.overflow-add-used
-overflow-add-used g c = omega (arith, so_far_room _ _ (linked_at (pair c.args.links.now) c.args.staying.now) (length c.args.staying.now) c.args.i c.loop-j.j c.loop-j.used c.loop-j.into 8192 (sym c.is-kept.ensures ∙ c.if-is-kept.true) c.loop-j-test.true (omega (arith, c.requires.room)) c.loop-j.invariant)
+pub overflow_add-used : goal.overflow_add-used
+overflow_add-used g c = omega (arith, so_far_room _ _ (linked_at (pair c.args.links.now) c.args.staying.now) (length c.args.staying.now) c.args.i c.loop-j.j c.loop-j.used c.loop-j.into 8192 (sym c.is_kept.ensures ∙ c.if-is_kept.true) c.loop-j-test.true (omega (arith, c.requires.room)) c.loop-j.invariant)
 
 pub loop-j-preserved : goal.loop-j-preserved
 loop-j-preserved g c =
@@ -39,12 +39,12 @@ loop-j-preserved g c =
     let n = length s in
     let i = c.args.i in
     let l = c.loop-j in
-    elim c.if-is-kept.branch [
-      | then-is-kept w ↦
-          let on : R i l.j ≡ true = sym c.is-kept.ensures ∙ w.if-is-kept.true in
+    elim c.if-is_kept.branch [
+      | then-is_kept w ↦
+          let on : R i l.j ≡ true = sym c.is_kept.ensures ∙ w.if-is_kept.true in
           let room = so_far_room h F R n i l.j l.used l.into (length l.into) on c.loop-j-test.true (omega (arith, c.requires.room, l.auto.into)) l.invariant in
           rw (w.used-is, w.into-is) (so_far_more h F R n i l.j l.used l.into w.put.new.into w.pruned-label.result on room w.put.ensures w.pruned-label.ensures l.invariant)
-      | else-is-kept w ↦ rw (w.used-is, w.into-is) (so_far_skip h F R n i l.j l.used l.into (sym c.is-kept.ensures ∙ w.if-is-kept.false) l.invariant)
+      | else-is_kept w ↦ rw (w.used-is, w.into-is) (so_far_skip h F R n i l.j l.used l.into (sym c.is_kept.ensures ∙ w.if-is_kept.false) l.invariant)
     ]
 
 pub returns : goal.returns

@@ -8,16 +8,16 @@ use Rattle.reduction.proofs.writing.write_rows.Goals as goal
 pub loop-i-init : goal.loop-i-init
 loop-i-init c i j = c.wipe.ensures i j ∙ sym (and_left (ltb i 0) _ (le-ltb i 0 (omega arith)))
 
-pub keep-row-requires : goal.keep-row-requires
-keep-row-requires c = record {
+pub keep_row-requires : goal.keep_row-requires
+keep_row-requires c = record {
   0 = search rules;
   empty = λ j. c.loop-i.invariant c.loop-i.i j ∙ and_left (ltb c.loop-i.i c.loop-i.i) _ (le-ltb c.loop-i.i c.loop-i.i (omega arith));
 }
 
 pub loop-i-preserved : goal.loop-i-preserved
 loop-i-preserved c i j =
-    placed_more (λ i. ltb j (length c.args.staying.now) && (eqb i j || linked_at (pair c.args.rows.now) c.args.staying.now i j)) (λ i. pair c.loop-i.into i j) (λ i. pair c.keep-row.new.into i j) c.loop-i.i
-    (λ i. c.loop-i.invariant i j) (c.keep-row.ensures.here j) (λ i ne. c.keep-row.ensures.others i j ne) i
+    placed_more (λ i. ltb j (length c.args.staying.now) && (eqb i j || linked_at (pair c.args.rows.now) c.args.staying.now i j)) (λ i. pair c.loop-i.into i j) (λ i. pair c.keep_row.new.into i j) c.loop-i.i
+    (λ i. c.loop-i.invariant i j) (c.keep_row.ensures.here j) (λ i ne. c.keep_row.ensures.others i j ne) i
 
 pub returns : goal.returns
 returns c i j =

@@ -4,9 +4,9 @@ use Rattle.header.proofs.Reading.{left_size, left_less}
 use Rattle.script.proofs.Parts.{field_more, offset_more, field_none, offset_none, field_here, offset_here}
 use Rattle.script.proofs.fields.field_at.Goals as goal
 
-pub returns-in-default : goal.returns-in-default
-returns-in-default c =
-    let none = ap (option_map (λ x. x.now)) c.in-default.is in
+pub returns-in_default : goal.returns-in_default
+returns-in_default c =
+    let none = ap (option_map (λ x. x.now)) c.in_default.is in
     record {
       value = sym (c.loop-i.invariant.0 ∙ field_none (option_map (λ x. x.now) c.loop-i.left) none _);
       offset = omega (arith, c.loop-i.invariant.1, offset_none (option_map (λ x. x.now) c.loop-i.left) none (c.args.k - c.loop-i.-i));
@@ -17,10 +17,10 @@ pub loop-i-preserved : goal.loop-i-preserved
 loop-i-preserved c =
     let some = ap (option_map (λ x. x.now)) c.in-Some.is in
     let inside : c.loop-i.-i < c.args.k = omega arith in
-    let less = left_less c.in-Some.part.now c.first-field-field.result.bytes.now c.first-field-field.result.rest c.first-field-field.ensures.cases in
+    let less = left_less c.in-Some.part.now c.first_field-field.result.bytes.now c.first_field-field.result.rest c.first_field-field.ensures.cases in
     let size = ap (λ o. left_size (option_map (λ x. x.now) o)) c.in-Some.is in (
-      c.loop-i.invariant.0 ∙ field_more c.args.k c.loop-i.-i inside _ _ _ _ some c.first-field-field.ensures.value,
-      omega (arith, c.loop-i.invariant.1, offset_more c.args.k c.loop-i.-i inside _ _ _ _ some c.first-field-field.ensures.value),
+      c.loop-i.invariant.0 ∙ field_more c.args.k c.loop-i.-i inside _ _ _ _ some c.first_field-field.ensures.value,
+      omega (arith, c.loop-i.invariant.1, offset_more c.args.k c.loop-i.-i inside _ _ _ _ some c.first_field-field.ensures.value),
       omega (arith, less, size, c.loop-i.invariant.2),
     )
 
@@ -29,8 +29,8 @@ returns-in-Some-left c =
     let some = ap (option_map (λ x. x.now)) c.in-Some-left.is in
     let here : c.args.k - c.loop-i.-i ≡ 0 = omega arith in
     record {
-      value = sym (c.loop-i.invariant.0 ∙ field_here _ _ _ _ some c.first-field.ensures.value _ here);
-      offset = omega (arith, c.loop-i.invariant.1, offset_here _ _ _ _ some c.first-field.ensures.value (c.args.k - c.loop-i.-i) here);
+      value = sym (c.loop-i.invariant.0 ∙ field_here _ _ _ _ some c.first_field.ensures.value _ here);
+      offset = omega (arith, c.loop-i.invariant.1, offset_here _ _ _ _ some c.first_field.ensures.value (c.args.k - c.loop-i.-i) here);
       within = omega (arith, c.loop-i.invariant.2);
     }
 

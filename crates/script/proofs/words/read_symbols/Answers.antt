@@ -11,31 +11,31 @@ use Rattle.script.proofs.words.read_symbols.Goals as goal
 pub loop-left-init : goal.loop-left-init
 loop-left-init c = (refl, omega arith)
 
-pub returns-in-default-read-symbol : goal.returns-in-default-read-symbol
-returns-in-default-read-symbol c =
+pub returns-in_default-read_symbol : goal.returns-in_default-read_symbol
+returns-in_default-read_symbol c =
     err_from_over (λ w. vec_items c.args.symbols.now ++ w) _ _
-    (turn_fault _ (vec_items c.loop-left.symbols) c.loop-left.at _ _ _ _ c.loop-left.invariant.0 (ap (option_map (λ x. x.now)) c.in-Some.is) c.first-field-field.ensures.value c.in-default-read-symbol.ensures)
+    (turn_fault _ (vec_items c.loop-left.symbols) c.loop-left.at _ _ _ _ c.loop-left.invariant.0 (ap (option_map (λ x. x.now)) c.in-Some.is) c.first_field-field.ensures.value c.in_default-read_symbol.ensures)
 
 pub further-at-requires : goal.further-at-requires
 further-at-requires c =
-    let less = left_less c.in-Some.part.now c.first-field-field.result.bytes.now c.first-field-field.result.rest c.first-field-field.ensures.cases in
+    let less = left_less c.in-Some.part.now c.first_field-field.result.bytes.now c.first_field-field.result.rest c.first_field-field.ensures.cases in
     let size = ap (λ o. left_size (option_map (λ x. x.now) o)) c.in-Some.is in
     omega (arith, less, size, c.loop-left.invariant.1)
 
 pub loop-left-smaller : goal.loop-left-smaller
 loop-left-smaller c =
-    let less = left_less c.in-Some.part.now c.first-field-field.result.bytes.now c.first-field-field.result.rest c.first-field-field.ensures.cases in
+    let less = left_less c.in-Some.part.now c.first_field-field.result.bytes.now c.first_field-field.result.rest c.first_field-field.ensures.cases in
     let size = ap (λ o. left_size (option_map (λ x. x.now) o)) c.in-Some.is in
     omega (arith, less, size)
 
 pub loop-left-preserved : goal.loop-left-preserved
 loop-left-preserved c =
-    let less = left_less c.in-Some.part.now c.first-field-field.result.bytes.now c.first-field-field.result.rest c.first-field-field.ensures.cases in
+    let less = left_less c.in-Some.part.now c.first_field-field.result.bytes.now c.first_field-field.result.rest c.first_field-field.ensures.cases in
     let size = ap (λ o. left_size (option_map (λ x. x.now) o)) c.in-Some.is in
-    let pushed = chosen _ _ _ _ c.push.ensures.items c.if-is-err.ensures.negation in
+    let pushed = chosen _ _ _ _ c.push.ensures.items c.if-is_err.ensures.negation in
     let place = c.further-at.ensures in (
-      turn_more _ (vec_items c.loop-left.symbols) c.loop-left.at _ _ _ _ c.loop-left.invariant.0 (ap (option_map (λ x. x.now)) c.in-Some.is) c.first-field-field.ensures.value c.in-Some-read-symbol.symbol _ c.in-Some-read-symbol.ensures pushed
-          ∙ ap (λ p. over (λ w. vec_items c.push.new.self ++ w) (symbols_say p (others (option_map (λ x. x.now) c.first-field-field.result.rest)))) (sym place),
+      turn_more _ (vec_items c.loop-left.symbols) c.loop-left.at _ _ _ _ c.loop-left.invariant.0 (ap (option_map (λ x. x.now)) c.in-Some.is) c.first_field-field.ensures.value c.in-Some-read_symbol.symbol _ c.in-Some-read_symbol.ensures pushed
+          ∙ ap (λ p. over (λ w. vec_items c.push.new.self ++ w) (symbols_say p (others (option_map (λ x. x.now) c.first_field-field.result.rest)))) (sym place),
       omega (arith, less, size, ap (λ p. p.offset) place, c.loop-left.invariant.1),
     )
 
@@ -43,5 +43,5 @@ pub returns : goal.returns
 unfolding symbols_say
 returns c =
     c.loop-left.invariant.0
-    ∙ ap (λ o. over (λ w. vec_items c.loop-left.symbols ++ w) (symbols_say c.loop-left.at (others (option_map (λ x. x.now) o)))) c.in-default.is
+    ∙ ap (λ o. over (λ w. vec_items c.loop-left.symbols ++ w) (symbols_say c.loop-left.at (others (option_map (λ x. x.now) o)))) c.in_default.is
     ∙ ap Ok (append-nil (vec_items c.loop-left.symbols))

@@ -5,11 +5,11 @@ use Rattle.written.proofs.hex.read_word.Goals as goal
 pub returns-then-bytes-lt16 : goal.returns-then-bytes-lt16
 returns-then-bytes-lt16 c = sym (read_short 16 0 c.args.bytes.now c.if-bytes-lt16.true)
 
-pub overflow-mul-word : goal.overflow-mul-word
-overflow-mul-word c = omega (arith, word_fits c.loop-i.i c.loop-i.word 0 c.loop-i-test.true c.loop-i.invariant.0 (omega arith))
+pub overflow_mul-word : goal.overflow_mul-word
+overflow_mul-word c = omega (arith, word_fits c.loop-i.i c.loop-i.word 0 c.loop-i-test.true c.loop-i.invariant.0 (omega arith))
 
-pub overflow-add-word : goal.overflow-add-word
-overflow-add-word c =
+pub overflow_add-word : goal.overflow_add-word
+overflow_add-word c =
     omega (arith, word_fits c.loop-i.i c.loop-i.word c.in-Some.d c.loop-i-test.true c.loop-i.invariant.0 (value_below (get_or c.args.bytes.now c.loop-i.i 0) _ (sym c.in-Some.ensures)))
 
 pub returns-in-None : goal.returns-in-None

@@ -12,7 +12,7 @@ use Rattle.rulebook.proofs.book.Book.become_reduced.Goals as goal
 pub invariant-of-self-2 : goal.invariant-of-self-2
 invariant-of-self-2 g c =
     let b = c.args.source.now in
-    let f = c.in-ok-counts.ensures.made in
+    let f = c.in_ok-counts.ensures.made in
     let settled = c.requires.settled.1 in
     let fit = f.states_fit in
     let fit' = f.arrows_fit in
@@ -22,11 +22,11 @@ invariant-of-self-2 g c =
     (omega arith, (omega arith, (long, (search rules, (k.0, (k.1, (k.2, tt)))))))
 
 pub invariant-of-self-3 : goal.invariant-of-self-3
-invariant-of-self-3 g c = let e = filled_ends _ _ _ _ _ _ _ _ c.in-ok-counts.ensures.made in (e.0, (e.1, tt))
+invariant-of-self-3 g c = let e = filled_ends _ _ _ _ _ _ _ _ c.in_ok-counts.ensures.made in (e.0, (e.1, tt))
 
 pub returns : goal.returns
 returns g c = record {
-  made = reduced_into _ _ _ _ _ c.in-ok-counts.counts _ _ _ c.in-ok-counts.ensures.made (same_abstract refl c.in-ok-counts.ensures.room refl refl refl);
+  made = reduced_into _ _ _ _ _ c.in_ok-counts.counts _ _ _ c.in_ok-counts.ensures.made (same_abstract refl c.in_ok-counts.ensures.room refl refl refl);
   same = tt;
-  lent = c.in-ok-counts.ensures.lent;
+  lent = c.in_ok-counts.ensures.lent;
 }

@@ -11,5 +11,5 @@ returns g c =
     let n = states_are b in
     record {
       says = search rules;
-      copies = rw n (copied b.inner.states b.inner.rows c.args.words.now c.copy-front.new.words c.copy-front.ensures.front c.copy-front.ensures.later (search rules));
+      copies = rw n (copied b.inner.states b.inner.rows c.args.words.now c.copy_front.new.words c.copy_front.ensures.front c.copy_front.ensures.later (search rules));
     }

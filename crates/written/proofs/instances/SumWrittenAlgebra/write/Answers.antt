@@ -3,43 +3,43 @@ use Rattle.std.proofs.lemmas.List.{length-drop, take_rest}
 use Rattle.written.specs.Codecs.{room_both, wrote_both}
 use Rattle.written.proofs.instances.SumWrittenAlgebra.write.Goals as goal
 
-pub returns-in-err-n : goal.returns-in-err-n
-returns-in-err-n g c =
+pub returns-in_err-n : goal.returns-in_err-n
+returns-in_err-n g c =
     let s = c.args.self.now in
     let p = c.args.p in
-    let room = room_both c.args.out.now (g.L.WrittenAlgebra.text s.left p.left) (g.R.WrittenAlgebra.text s.right p.right) _ c.text-len.ensures c.if-out-text-len.false (omega arith) in
-    absurd (omega (arith, room, c.in-err-n.ensures.0))
+    let room = room_both c.args.out.now (g.L.WrittenAlgebra.text s.left p.left) (g.R.WrittenAlgebra.text s.right p.right) _ c.text_len.ensures c.if-out-text_len.false (omega arith) in
+    absurd (omega (arith, room, c.in_err-n.ensures.0))
 
-pub slice-bounds-write-count : goal.slice-bounds-write-count
-slice-bounds-write-count g c =
+pub slice_bounds-write-count : goal.slice_bounds-write-count
+slice_bounds-write-count g c =
     let s = c.args.self.now in
     let p = c.args.p in
-    let room = room_both c.args.out.now (g.L.WrittenAlgebra.text s.left p.left) (g.R.WrittenAlgebra.text s.right p.right) _ c.text-len.ensures c.if-out-text-len.false (omega arith) in
-    omega (arith, room, c.in-ok-n.ensures.0, c.write.auto.out)
+    let room = room_both c.args.out.now (g.L.WrittenAlgebra.text s.left p.left) (g.R.WrittenAlgebra.text s.right p.right) _ c.text_len.ensures c.if-out-text_len.false (omega arith) in
+    omega (arith, room, c.in_ok-n.ensures.0, c.write.auto.out)
 
-pub slice-bounds-write-start : goal.slice-bounds-write-start
-slice-bounds-write-start g c =
+pub slice_bounds-write-start : goal.slice_bounds-write-start
+slice_bounds-write-start g c =
     let s = c.args.self.now in
     let p = c.args.p in
-    let room = room_both c.args.out.now (g.L.WrittenAlgebra.text s.left p.left) (g.R.WrittenAlgebra.text s.right p.right) _ c.text-len.ensures c.if-out-text-len.false (omega arith) in
-    let at : c.in-ok-n.n ≤ length c.write.new.out = omega (arith, room, c.in-ok-n.ensures.0, c.write.auto.out) in
+    let room = room_both c.args.out.now (g.L.WrittenAlgebra.text s.left p.left) (g.R.WrittenAlgebra.text s.right p.right) _ c.text_len.ensures c.if-out-text_len.false (omega arith) in
+    let at : c.in_ok-n.n ≤ length c.write.new.out = omega (arith, room, c.in_ok-n.ensures.0, c.write.auto.out) in
     at
 
-pub returns-in-err-m : goal.returns-in-err-m
-returns-in-err-m g c =
+pub returns-in_err-m : goal.returns-in_err-m
+returns-in_err-m g c =
     let s = c.args.self.now in
     let p = c.args.p in
     let mid = c.write.new.out in
-    let n = c.in-ok-n.n in
-    let room = room_both c.args.out.now (g.L.WrittenAlgebra.text s.left p.left) (g.R.WrittenAlgebra.text s.right p.right) _ c.text-len.ensures c.if-out-text-len.false (omega arith) in
-    absurd (omega (arith, room, c.in-ok-n.ensures.0, c.in-err-m.ensures.0, c.write.auto.out, ap length (take_rest mid n), length-drop n mid))
+    let n = c.in_ok-n.n in
+    let room = room_both c.args.out.now (g.L.WrittenAlgebra.text s.left p.left) (g.R.WrittenAlgebra.text s.right p.right) _ c.text_len.ensures c.if-out-text_len.false (omega arith) in
+    absurd (omega (arith, room, c.in_ok-n.ensures.0, c.in_err-m.ensures.0, c.write.auto.out, ap length (take_rest mid n), length-drop n mid))
 
-pub overflow-add-result : goal.overflow-add-result
-overflow-add-result g c =
+pub overflow_add-result : goal.overflow_add-result
+overflow_add-result g c =
     let s = c.args.self.now in
     let p = c.args.p in
-    let room = room_both c.args.out.now (g.L.WrittenAlgebra.text s.left p.left) (g.R.WrittenAlgebra.text s.right p.right) _ c.text-len.ensures c.if-out-text-len.false (omega arith) in
-    omega (arith, room, c.in-ok-n.ensures.0, c.in-ok-m.ensures.0)
+    let room = room_both c.args.out.now (g.L.WrittenAlgebra.text s.left p.left) (g.R.WrittenAlgebra.text s.right p.right) _ c.text_len.ensures c.if-out-text_len.false (omega arith) in
+    omega (arith, room, c.in_ok-n.ensures.0, c.in_ok-m.ensures.0)
 
 pub returns : goal.returns
 returns g c =
@@ -47,7 +47,7 @@ returns g c =
     let p = c.args.p in
     let a = g.L.WrittenAlgebra.text s.left p.left in
     let b = g.R.WrittenAlgebra.text s.right p.right in
-    let room = room_both c.args.out.now a b _ c.text-len.ensures c.if-out-text-len.false (omega arith) in
-    let first = c.in-ok-n.ensures in
-    let second = c.in-ok-m.ensures in
-    wrote_both c.args.out.now c.write.new.out c.write-2.new.out a b c.in-ok-n.n c.in-ok-m.m _ room c.write.auto.out first.0 first.1 refl second.0 second.1
+    let room = room_both c.args.out.now a b _ c.text_len.ensures c.if-out-text_len.false (omega arith) in
+    let first = c.in_ok-n.ensures in
+    let second = c.in_ok-m.ensures in
+    wrote_both c.args.out.now c.write.new.out c.write-2.new.out a b c.in_ok-n.n c.in_ok-m.m _ room c.write.auto.out first.0 first.1 refl second.0 second.1
