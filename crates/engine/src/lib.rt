@@ -3,6 +3,7 @@
 // Both take a book as it lies in the caller's memory: a slice of arrows and a mark for each state, at most 256 states
 // and, for settle, 8,192 arrows. Nothing is allocated, and no array holds labels, so that any algebra will do; settle
 // has under 256 KiB of stack. Of the algebra settle uses only `none`, `join` and `is_within`, the word test only `test`.
+#![tactic(auto)]
 
 mod columns;
 mod fill;

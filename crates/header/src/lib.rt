@@ -1,4 +1,5 @@
 // The first line of the programs' inputs, which says by what cuts the labels behind it are read.
+#![tactic(auto)]
 
 ghost use Rattle.std.specs.Prelude.{◌≡◌, ℕ, List, [], Ok, Err, MatchResult, ◌≢◌};
 ghost use Rattle.labels.specs.CutLists.{cuts_of};

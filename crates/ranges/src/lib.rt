@@ -2,6 +2,7 @@
 //
 // Each call finds one range, so that nothing has to be stored. It costs at most a pass over the cuts, and a count of
 // code points costs one such call for each range. No function refuses or alters anything.
+#![tactic(auto)]
 
 ghost use Rattle.std.specs.Prelude.{◌≡◌, ℕ, ◌+◌, ◌≤◌, false, MatchOption};
 ghost use Rattle.bits.specs.Bit.{bit};

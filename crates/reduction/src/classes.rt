@@ -68,15 +68,18 @@ fn merged_marks(names: &[usize], marks: &[Mark]) -> Marked
     ensures initial { (K : ℕ → ℕ → Bool) → Named K (length marks.now) names.now → (c : ℕ) → slice_index_or result.initial c false ≡ member (length marks.now) K (λ p. mark_is_start (slice_index_or marks.now p Neither)) c }
     ensures accepting { (K : ℕ → ℕ → Bool) → Named K (length marks.now) names.now → (c : ℕ) → slice_index_or result.accepting c false ≡ member (length marks.now) K (λ p. mark_accepts (slice_index_or marks.now p Neither)) c }
 {
-    let mut initial = [false; 256];
+    let mut starting = [false; 256];
     let mut accepting = [false; 256];
     for p in 0..marks.len() {
         let c = names[p];
         let mark = marks[p];
-        initial[c] = mark.is_initial() | initial[c];
+        starting[c] = mark.is_initial() | starting[c];
         accepting[c] = mark.is_accepting() | accepting[c];
     }
-    Marked { initial, accepting }
+    Marked {
+        initial: starting,
+        accepting,
+    }
 }
 
 fn is_below(rows: &[u64], c: usize, d: usize) -> bool

@@ -94,10 +94,11 @@ impl<L: WrittenAlgebra, R: WrittenAlgebra> WrittenAlgebra for Sum<L, R> {
     ghost back = { λ a p rest.
         let text_r = R.WrittenAlgebra.text a.right p.right in
         let l = L.WrittenAlgebra.back a.left p.left (text_r ++ rest) in
-        let r = R.WrittenAlgebra.back a.right p.right rest in
-        (record { left = l.0; right = r.0 },
+        let r = R.WrittenAlgebra.back a.right p.right rest in (
+          record { left = l.0; right = r.0 },
           both_back (L.WrittenAlgebra.reads a.left) (R.WrittenAlgebra.reads a.right) (L.WrittenAlgebra.text a.left p.left) text_r rest l.0 r.0 l.1 r.1,
-          either_same _ _ _ _ l.2 r.2) };
+          either_same _ _ _ _ l.2 r.2,
+        ) };
 
     ghost exact = { λ a bytes got e.
         both_exact (L.WrittenAlgebra.reads a.left) (R.WrittenAlgebra.reads a.right) (L.WrittenAlgebra.text a.left) (R.WrittenAlgebra.text a.right) bytes got

@@ -2,6 +2,7 @@
 //
 // A text can be told from whatever stands behind it and holds neither a comma nor byte 10, so a label is a field of a
 // line. Code that only computes with labels asks for the smaller trait.
+#![tactic(auto)]
 
 ghost use Rattle.std.specs.Prelude.{◌≡◌, ℕ, ◌-◌, ◌^◌, min, List, ◌++◌, length, drop, Some, None, Option, MatchOption, ◌≢◌};
 ghost use Rattle.written.specs.declared.Reading.{Reading};

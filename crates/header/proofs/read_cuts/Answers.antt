@@ -13,12 +13,12 @@ returns-in-Some c =
     let says = cut_line_shape line _ _ c.first_field-word.ensures.value _ (Some c.in-Some.fault) c.count_fields.ensures c.in-Some.ensures in
     record { value = says; law = read_law line (Err c.in-Some.fault) says }
 
-pub returns-in-Some-default : goal.returns-in-Some-default
-returns-in-Some-default c =
+pub returns-in-Some-rest : goal.returns-in-Some-rest
+returns-in-Some-rest c =
     let line = c.args.line.now in
-    let whole : cut_line line ≡ cut_fields [] 5 (fields c.in-Some-default.rest.now) =
+    let whole : cut_line line ≡ cut_fields [] 5 (fields c.in-Some-rest.rest.now) =
     cut_line_shape line _ _ c.first_field-word.ensures.value _ None c.count_fields.ensures c.in_default.ensures
-    ∙ ap (λ o. cut_fields [] 5 (others (option_map (λ x. x.now) o))) c.in-Some-default.is in
+    ∙ ap (λ o. cut_fields [] 5 (others (option_map (λ x. x.now) o))) c.in-Some-rest.is in
     let says = subst (λ w. MatchResult c.read_fields.result (λ made. w ≡ Ok (cuts_of made)) (λ f. w ≡ Err f)) (sym whole) c.read_fields.ensures.value in
     record { value = says; law = read_law line c.read_fields.result says }
 

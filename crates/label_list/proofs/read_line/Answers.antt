@@ -6,7 +6,7 @@ pub read_label-requires : goal.read_label-requires
 read_label-requires g c =
     omega (arith, rest_shorter c.args.line.now _ c.first_field-word.result.rest c.in-Some.rest c.in-Some.is c.first_field-word.ensures.cases)
 
-pub returns-in-Some-default : goal.returns-in-Some-default
-returns-in-Some-default g c =
-    end_count (g.L.WrittenAlgebra.reads c.args.a.now) c.args.at c.args.line.now _ c.first_field-word.result.rest c.in-Some-default.field-0 c.in-Some-default.is c.first_field-word.ensures.value
+pub returns-in-Some-rest : goal.returns-in-Some-rest
+returns-in-Some-rest g c =
+    end_count (g.L.WrittenAlgebra.reads c.args.a.now) c.args.at c.args.line.now _ c.first_field-word.result.rest c.in-Some-rest.field-0 c.in-Some-rest.is c.first_field-word.ensures.value
     (sym c.if-is_word.ensures) (sym c.if-is_word-2.ensures)

@@ -10,7 +10,7 @@ loop-i-init c i j = c.wipe.ensures i j ∙ sym (and_left (ltb i 0) _ (le-ltb i 0
 
 pub keep_row-requires : goal.keep_row-requires
 keep_row-requires c = record {
-  0 = search rules;
+  rows_len = search rules;
   empty = λ j. c.loop-i.invariant c.loop-i.i j ∙ and_left (ltb c.loop-i.i c.loop-i.i) _ (le-ltb c.loop-i.i c.loop-i.i (omega arith));
 }
 

@@ -1,4 +1,4 @@
-use Rattle.std.proofs.Common.{◌-◌, ◌≤◌, length, refl, ap, arith}
+use Rattle.std.proofs.Common.{◌≤◌, length, refl, ap, arith}
 use Rattle.std.proofs.lemmas.List.{length-drop, take_rest}
 use Rattle.written.specs.Codecs.{room_both, wrote_both}
 use Rattle.written.proofs.instances.SumWrittenAlgebra.write.Goals as goal
