@@ -60,8 +60,8 @@ fn a_value_that_is_no_symbol_is_held_of_by_nothing(rt: HostRuntime) {
 fn every_hexadecimal_digit_is_written_and_read(rt: HostRuntime) {
     let mut out = [b'#'; 18];
     assert_eq!(rt; StyleMarks.write(0x0123_4567_89ab_cdef, &mut out), Some(16));
-    assert!(rt; &out[0..16] == b"0123456789abcdef");
-    assert!(rt; &out[16..18] == b"##");
+    assert!(rt; &out[0..16] == b"0123456789abcdef".as_slice());
+    assert!(rt; &out[16..18] == b"##".as_slice());
     assert_eq!(rt;
         read_whole(&StyleMarks, b"fedcba9876543210"),
         Some(0xfedc_ba98_7654_3210)
@@ -76,7 +76,7 @@ fn a_meaningless_bit_is_written_as_0_and_not_read(rt: HostRuntime) {
     let a = CodePoints { cuts: many_cuts(2) };
     let mut out = [0; 16];
     assert_eq!(rt; a.write(0xff, &mut out), Some(16));
-    assert!(rt; &out[0..16] == b"0000000000000007");
+    assert!(rt; &out[0..16] == b"0000000000000007".as_slice());
     assert_eq!(rt; read_whole(&a, b"0000000000000007"), Some(7));
     assert_eq!(rt; read_whole(&a, b"0000000000000008"), None);
     let full = CodePoints {
@@ -133,6 +133,6 @@ fn a_sum_three_deep_writes_nothing_where_there_is_no_room(rt: HostRuntime) {
     assert!(rt; short[0] == b'#' && short[62] == b'#');
     let mut out = [b'#'; 64];
     assert_eq!(rt; a.write(p, &mut out), Some(64));
-    assert!(rt; &out[0..64] == b"0000000000000001000000000000000200000000000000040000000000000003");
+    assert!(rt; &out[0..64] == b"0000000000000001000000000000000200000000000000040000000000000003".as_slice());
     assert!(rt; read_whole(&a, &out).is_some());
 }

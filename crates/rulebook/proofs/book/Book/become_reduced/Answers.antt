@@ -9,8 +9,8 @@ use Rattle.rulebook.proofs.Reduced.{filled_ends, filled_order, reduced_into}
 use Rattle.rulebook.proofs.Views.{states_are}
 use Rattle.rulebook.proofs.book.Book.become_reduced.Goals as goal
 
-pub invariant-of-self-2 : goal.invariant-of-self-2
-invariant-of-self-2 g c =
+pub invariant_of-self-2 : goal.invariant_of-self-2
+invariant_of-self-2 g c =
     let b = c.args.source.now in
     let f = c.in_ok-counts.ensures.made in
     let settled = c.requires.settled.1 in
@@ -19,10 +19,18 @@ invariant-of-self-2 g c =
     let long : length c.reduce.new.marks ≡ 256 = search rules in
     let o = preorder_of b.inner.states b.inner.rows b.inner.condition settled b.inner.reflexive b.inner.transitive in
     let k = filled_order _ _ _ _ _ _ _ _ f (subst (λ (n : ℕ). Preorder n (pair b.inner.rows)) (sym (states_are b)) o) Settled in
-    (omega arith, (omega arith, (long, (search rules, (k.0, (k.1, (k.2, tt)))))))
+    record {
+      few_states = omega arith;
+      few_arrows = omega arith;
+      all_marks = long;
+      all_rows = search rules;
+      reflexive = k.0;
+      transitive = k.1;
+      bounded = k.2;
+    }
 
-pub invariant-of-self-3 : goal.invariant-of-self-3
-invariant-of-self-3 g c = let e = filled_ends _ _ _ _ _ _ _ _ c.in_ok-counts.ensures.made in (e.0, (e.1, tt))
+pub invariant_of-self-3 : goal.invariant_of-self-3
+invariant_of-self-3 g c = let e = filled_ends _ _ _ _ _ _ _ _ c.in_ok-counts.ensures.made in record { fits = e.0; ends = e.1 }
 
 pub returns : goal.returns
 returns g c = record {

@@ -3,11 +3,11 @@ use Rattle.std.proofs.lemmas.List.{take_more_set, length-set}
 use Rattle.rulebook.proofs.Lists.{ends_put, same_abstract}
 use Rattle.rulebook.proofs.book.Book.put.Goals as goal
 
-pub invariant-of-self-2 : goal.invariant-of-self-2
-invariant-of-self-2 g c =
+pub invariant_of-self-2 : goal.invariant_of-self-2
+invariant_of-self-2 g c =
     let b = c.args.self.now in
     let e = ends_put b.inner.states b.inner.arrows _ _ _ c.put.ensures.value b.ends c.requires.room c.requires.ends in
-    (e.0, (e.1, tt))
+    record { fits = e.0; ends = e.1 }
 
 pub returns : goal.returns
 returns g c =
