@@ -2,6 +2,7 @@
 //
 // A rule is two states and an arrow between them. An entry opens the book and settles it again, also where a part of the
 // rule is declined: a ticket cannot be let go, so no way through `enter_rule` leaves a book open.
+#![tactic(auto)]
 
 ghost use Rattle.std.specs.Prelude.{◌≡◌, length, IfOk};
 ghost use Rattle.rulebook.specs.declared.parts.Condition.TheVariants.{Open, Settled};

@@ -1,17 +1,13 @@
 -- What an edit, accepted or declined, leaves of a book's number, room and condition; a settled book is not edited. Assumes nothing.
-use Rattle.std.proofs.Common.{◌≡◌, ℕ, Bool, true, false, cond, ◌&&◌, eqb, ltb, leb, List, [], ◌∷◌, ◌++◌, length, get_or, set, Ok, Err, Result, sym, refl, ap, ◌∙◌, subst, arith}
-use Rattle.std.specs.List.{remove}
-use Rattle.automata.specs.declared.Arrow.{Arrow}
+use Rattle.std.proofs.Common.{◌≡◌, ℕ, Bool, true, false, cond, ◌&&◌, eqb, ltb, length, Ok, Err, Result, sym, refl, ◌∙◌, subst, arith}
 use Rattle.automata.specs.declared.Mark.{Mark}
-use Rattle.automata.specs.declared.Mark.TheVariants.{Neither}
 use Rattle.rulebook.specs.declared.parts.Condition.{Condition}
 use Rattle.rulebook.specs.declared.parts.Condition.TheVariants.{Settled, Open}
-use Rattle.rulebook.specs.declared.parts.Act.{Act}
-use Rattle.rulebook.specs.declared.parts.Act.TheVariants.{Opens, Edits, Settles}
+use Rattle.rulebook.specs.declared.parts.Act.TheVariants.{Opens, Edits}
 use Rattle.rulebook.specs.declared.parts.Refusal.{Refusal}
-use Rattle.rulebook.specs.declared.parts.Refusal.TheVariants.{StatesFull, NoSuchState, TooSmall, EmptyLabel, NoSuchArrow, ForeignTicket}
+use Rattle.rulebook.specs.declared.parts.Refusal.TheVariants.{ForeignTicket}
 use Rattle.rulebook.specs.Refusals.{judged}
-use Rattle.rulebook.specs.Model.{Abstract, Outcome, admitted, by, refused, answers, with_marks, with_arrows, state_exists, has_room, opening, adding_state, re_marking, adding_arrow, striking, settling}
+use Rattle.rulebook.specs.Model.{Abstract, Outcome, admitted, by, answers, state_exists, has_room, opening, adding_state, re_marking, adding_arrow, striking}
 
 pub open_settled : Open ≡ Settled → {X : Type 0} → X
 open_settled e = let z : ◌≡◌ {A = ℕ} 0 1 = cc in absurd (omega arith)

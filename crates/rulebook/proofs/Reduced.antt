@@ -1,5 +1,5 @@
 -- A book that holds a reduction: its arrows end at its states, and its kept pairs are a preorder. Assumes nothing.
-use Rattle.std.proofs.Common.{◌≡◌, ℕ, ◌<◌, ◌≤◌, Bool, true, false, ◌||◌, T, eqb, ◌⊎◌, List, [], ◌∷◌, map, length, get_or, take, sym, refl, ap, ◌∙◌, subst, inl, inr, arith, eqb→eq}
+use Rattle.std.proofs.Common.{◌≡◌, ℕ, ◌<◌, ◌≤◌, Bool, T, eqb, ◌⊎◌, List, [], ◌∷◌, length, take, sym, refl, ap, ◌∙◌, subst, inl, inr, arith, eqb→eq}
 use lib.Dec.{eqb_refl}
 use Rattle.std.specs.List.{AllByRecursion as All}
 use Rattle.std.proofs.lemmas.List.{length-map, length-take-le, get_or-take}
@@ -8,12 +8,11 @@ use Rattle.std.proofs.lemmas.Bool.{cases_lt, cases_eq}
 use Rattle.automata.specs.declared.Arrow.{Arrow}
 use Rattle.automata.specs.declared.Mark.{Mark}
 use Rattle.automata.specs.Automata.{Automaton, Within}
-use Rattle.automata.specs.Below.{table}
 use Rattle.automata.specs.Book.{ends, ReducedBook}
 use Rattle.automata.specs.Simulation.{Keeps}
 use Rattle.automata.specs.Minimal.{Minimal}
 use Rattle.bits.specs.Matrix.{pair}
-use Rattle.automata.specs.Reduction.{below, staying, class, reduced_kept}
+use Rattle.automata.specs.Reduction.{staying, class, reduced_kept}
 use Rattle.automata.proofs.Tests.{or_l, or_r, ways, forth, back}
 use Rattle.automata.proofs.Below.{rising_at, rising_rises}
 use Rattle.automata.proofs.Names.{equal, below_from, below_to}

@@ -1,12 +1,12 @@
 -- An abstract book, and what each call answers and leaves of it. A refusal leaves the book as it was. Assumes nothing.
-use Rattle.std.specs.Prelude.{ℕ, ◌+◌, ◌*◌, min, Bool, true, false, cond, ◌&&◌, List, [], ◌∷◌, ◌++◌, length, Ok, Err, Result, ◌==◌, nat_le, nat_lt, slice_index_or, slice_set}
+use Rattle.std.specs.Prelude.{ℕ, ◌+◌, ◌*◌, min, Bool, cond, ◌&&◌, List, [], ◌∷◌, ◌++◌, length, Ok, Err, Result, ◌==◌, nat_le, nat_lt, slice_index_or, slice_set}
 use Rattle.std.specs.List.{remove}
 use Rattle.automata.specs.declared.Arrow.{Arrow}
 use Rattle.automata.specs.declared.Mark.{Mark}
 use Rattle.automata.specs.declared.Mark.TheVariants.{Neither}
 use Rattle.automata.specs.Automata.{Automaton, automaton}
 use Rattle.rulebook.specs.declared.parts.Condition.{Condition}
-use Rattle.rulebook.specs.declared.parts.Condition.TheVariants.{Settled, Open}
+use Rattle.rulebook.specs.declared.parts.Condition.TheVariants.{Settled}
 use Rattle.rulebook.specs.declared.parts.Act.{Act}
 use Rattle.rulebook.specs.declared.parts.Act.TheVariants.{Opens, Edits, Settles, Reads}
 use Rattle.rulebook.specs.declared.parts.Refusal.{Refusal}

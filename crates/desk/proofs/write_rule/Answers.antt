@@ -1,4 +1,4 @@
-use Rattle.std.proofs.Common.{◌≡◌, length, ap, ◌∙◌, rules}
+use Rattle.std.proofs.Common.{length, ap, ◌∙◌, rules}
 use Rattle.rulebook.specs.View.{view}
 use Rattle.rulebook.proofs.Edits.{state_added, arrow_added, edited_more}
 use Rattle.desk.proofs.Places.{state_arrows, arrow_place}

@@ -8,7 +8,7 @@ abbrev pub invariant-loop-i : goal.invariant-loop-i
 invariant-loop-i g l =
     let L = g.L.LabelAlgebra in
     let m = moment l.initial.book l.initial.target l.initial.words in
-    Held (view l.book) l.own_val
+    Held (view l.book) l.own
     × (l.book.table.slots.ghost_name ≡ l.initial.book.table.slots.ghost_name)
     × (l.target.table.slots.ghost_name ≡ l.initial.target.table.slots.ghost_name)
     × (drop l.i l.answers ≡ drop l.i l.initial.answers)

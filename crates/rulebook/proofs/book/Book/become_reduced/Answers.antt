@@ -1,8 +1,7 @@
-use Rattle.std.proofs.Common.{◌≡◌, ℕ, length, sym, refl, ap, ◌∙◌, subst, arith, rules}
+use Rattle.std.proofs.Common.{◌≡◌, ℕ, length, sym, refl, subst, arith, rules}
 use Rattle.automata.proofs.Simulations.{Preorder}
 use Rattle.bits.specs.Matrix.{pair}
 use Rattle.rulebook.specs.declared.parts.Condition.TheVariants.{Settled}
-use Rattle.rulebook.specs.View.{view}
 use Rattle.rulebook.proofs.Kept.{preorder_of}
 use Rattle.rulebook.proofs.Lists.{same_abstract}
 use Rattle.rulebook.proofs.Reduced.{filled_ends, filled_order, reduced_into}

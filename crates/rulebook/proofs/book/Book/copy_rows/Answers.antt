@@ -1,6 +1,4 @@
-use Rattle.std.proofs.Common.{◌≡◌, ℕ, length, sym, ap, ◌∙◌, subst, rules}
-use Rattle.bits.specs.Matrix.{pair}
-use Rattle.rulebook.specs.Reducing.{Copied}
+use Rattle.std.proofs.Common.{rules}
 use Rattle.rulebook.proofs.Copying.{copied}
 use Rattle.rulebook.proofs.Views.{states_are}
 use Rattle.rulebook.proofs.book.Book.copy_rows.Goals as goal

@@ -1,4 +1,4 @@
-use Rattle.std.proofs.Common.{◌≡◌, length, take, set, sym, refl, ap, ◌∙◌}
+use Rattle.std.proofs.Common.{length, take, refl, ap, ◌∙◌}
 use Rattle.std.proofs.lemmas.List.{take_more_set, length-set}
 use Rattle.rulebook.proofs.Lists.{ends_put, same_abstract}
 use Rattle.rulebook.proofs.book.Book.put.Goals as goal

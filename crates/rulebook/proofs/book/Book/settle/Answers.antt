@@ -1,4 +1,4 @@
-use Rattle.std.proofs.Common.{◌≡◌, ℕ, length, sym, ap, ◌∙◌, subst, rules}
+use Rattle.std.proofs.Common.{ℕ, subst, rules}
 use Rattle.bits.specs.Matrix.{pair}
 use Rattle.automata.proofs.Simulations.{Preorder, preorder}
 use Rattle.rulebook.proofs.Kept.{ordered}

@@ -1,5 +1,4 @@
-use Rattle.std.proofs.Common.{◌≡◌, ◌⊎◌, length, sym, ap, ◌∙◌, subst, rules}
-use Rattle.rulebook.proofs.Views.{sized, states_are}
+use Rattle.rulebook.proofs.Views.{sized}
 use Rattle.rulebook.proofs.book.Book.simulation.Goals as goal
 
 pub settle-requires : goal.settle-requires

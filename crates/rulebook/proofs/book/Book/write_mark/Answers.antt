@@ -1,4 +1,4 @@
-use Rattle.std.proofs.Common.{◌≡◌, length, take, sym, refl, ap, ◌∙◌, arith}
+use Rattle.std.proofs.Common.{sym, refl, ap}
 use Rattle.std.proofs.lemmas.List.{get_or-take}
 use Rattle.automata.specs.declared.Mark.TheVariants.{Neither}
 use Rattle.rulebook.specs.View.{view}

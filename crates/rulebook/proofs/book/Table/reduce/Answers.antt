@@ -1,4 +1,4 @@
-use Rattle.std.proofs.Common.{◌≡◌, length, sym, ap, ◌∙◌, subst, rules}
+use Rattle.std.proofs.Common.{length, ap, ◌∙◌, rules}
 use Rattle.rulebook.proofs.Views.{sized}
 use Rattle.rulebook.proofs.book.Table.reduce.Goals as goal
 
