@@ -3,6 +3,7 @@
 // Standard input is a list of labels; the program prints of each label its style marks, its code points and how many
 // symbols these are. What is read and what is counted is proved in the crates `label_list` and `ranges`; the layout of
 // the output is tested.
+#![tactic(auto)]
 
 use label_list::{LabelList, Refusal, read_list};
 use labels::{Both, CodePoints, StyleMarks, Sum};

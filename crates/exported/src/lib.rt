@@ -3,6 +3,7 @@
 // What the engine asks of its callers is tested here first, so neither call asks anything: where the numbers make no book,
 // or the buffers of a target are too small, it says so and alters nothing. The tables that the engine works on are local:
 // settle has one, reduce two, of 192 KiB each.
+#![tactic(auto)]
 
 ghost use Rattle.std.specs.Prelude.{◌≡◌, ◌-◌, ◌^◌, ◌≤◌, true, false, map, length, take, Decides};
 ghost use Rattle.std.specs.List.{AllByRecursion as All};

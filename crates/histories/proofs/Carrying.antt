@@ -1,13 +1,11 @@
 -- One call of a history, from what the book's own calls promise. Assumes nothing.
-use Rattle.std.proofs.Common.{◌≡◌, ℕ, ◌<◌, ◌≤◌, Bool, true, false, cond, ◌&&◌, T, eqb, ltb, leb, List, [], ◌∷◌, ◌++◌, length, Some, None, Ok, Err, Decides, Option, Result, sym, refl, ap, ◌∙◌, subst, arith}
+use Rattle.std.proofs.Common.{◌≡◌, ℕ, ◌<◌, Bool, true, false, cond, ◌&&◌, eqb, List, length, Some, None, Ok, Err, Decides, Option, Result, sym, refl, ap, ◌∙◌, subst, arith}
 use Rattle.std.proofs.lemmas.Bool.{ltb-true}
 use Rattle.bits.specs.Matrix.{pair}
 use Rattle.automata.specs.Automata.{Automaton}
 use Rattle.automata.specs.Automata as automata
-use Rattle.automata.specs.Below.{pairs}
 use Rattle.automata.specs.Simulation.{Keeps}
 use Rattle.automata.specs.Simulation as simulation
-use Rattle.automata.specs.Minimal.{Minimal}
 use Rattle.automata.proofs.Tests.{forth, back}
 use Rattle.automata.proofs.Simulations.{simulations}
 use Rattle.reduction.specs.declared.Counts as reduction
@@ -18,17 +16,17 @@ use Rattle.rulebook.specs.declared.parts.Condition.TheVariants.{Settled, Open}
 use Rattle.rulebook.specs.declared.parts.Act.TheVariants.{Reads}
 use Rattle.rulebook.specs.declared.parts.Act.TheVariants as act
 use Rattle.rulebook.specs.declared.parts.Refusal.{Refusal}
-use Rattle.rulebook.specs.declared.parts.Refusal.TheVariants.{NoSuchState, TooSmall, ForeignTicket, TargetTaken}
+use Rattle.rulebook.specs.declared.parts.Refusal.TheVariants.{NoSuchState, ForeignTicket}
 use Rattle.rulebook.specs.Refusals.{judged}
-use Rattle.rulebook.specs.Model.{Abstract, machine, after, by, answers, with_condition, state_exists, opening, settling, asking, copying, reducing, book_is_empty}
-use Rattle.rulebook.specs.Reducing.{Copied, Reduces, ReducedInto}
+use Rattle.rulebook.specs.Model.{Abstract, machine, after, by, answers, with_condition, state_exists, opening, settling, asking, copying}
+use Rattle.rulebook.specs.Reducing.{Reduces}
 use Rattle.rulebook.proofs.Reduced.{into_minimal}
 use Rattle.histories.specs.declared.calls.Call.{Call}
 use Rattle.histories.specs.declared.calls.Call.TheVariants as call
 use Rattle.histories.specs.declared.calls.Answer.{Answer}
 use Rattle.histories.specs.declared.calls.Answer.TheVariants as answer
 use Rattle.histories.specs.Present.{left_by, part}
-use Rattle.histories.specs.Moments.{Moment, said, Unless, Whole, Counted, CopiedPart, Copies, Settles, FilledBy, Still, RowsCopied, TargetFilled, Beside, ReducedRight, Right, Step}
+use Rattle.histories.specs.Moments.{Moment, said, Unless, Whole, Counted, Copies, Settles, FilledBy, Still, RowsCopied, Beside, ReducedRight, Right, Step}
 use Rattle.histories.specs.Held.{Held}
 use Rattle.rulebook.proofs.Edits.{Edited, open_settled, opened}
 

@@ -1,5 +1,5 @@
 -- A part of a list, and the list with another part in its place. Assumes nothing.
-use Rattle.std.proofs.Common.{◌≡◌, ℕ, ◌+◌, ◌-◌, ◌<◌, ◌≤◌, Bool, true, false, ◌&&◌, leb, List, [], ◌∷◌, length, take, drop, Ok, Err, Result, sym, refl, ap, ◌∙◌, subst, arith}
+use Rattle.std.proofs.Common.{◌≡◌, ℕ, ◌-◌, ◌≤◌, Bool, List, length, Ok, Err, Result, sym, ap, ◌∙◌, subst, arith}
 use borrow.Rule.Slice.PartMut.{put_mid, put_same, same_len_mid, mid_len}
 use Rattle.std.specs.List.{between}
 use Rattle.std.proofs.lemmas.Slice.{take-put_mid_below, drop-put_mid, between-put_mid}
@@ -7,7 +7,7 @@ use Rattle.std.proofs.lemmas.Bool.{le-leb}
 use Rattle.rulebook.specs.declared.parts.Refusal.{Refusal}
 use Rattle.rulebook.specs.Reducing.{Copied}
 use Rattle.histories.specs.Present.{part}
-use Rattle.histories.specs.Moments.{CopiedPart, Copies, CopiesWhole}
+use Rattle.histories.specs.Moments.{Copies, CopiesWhole}
 
 pub part_is : {X : Type 0} (i j : ℕ) (xs : List X) → i ≤ j → j ≤ length xs → part i j xs ≡ between i j xs
 part_is i j xs h k = rw (le-leb i j h, le-leb j (length xs) k)

@@ -1,13 +1,12 @@
 -- A history that is carried out call by call. Assumes nothing.
-use Rattle.std.proofs.Common.{◌≡◌, ℕ, zero, suc, ◌+◌, ◌<◌, ◌≤◌, Bool, ◌⊎◌, List, [], ◌∷◌, ◌++◌, length, get_or, take, drop, set, sym, refl, ap, ◌∙◌, subst, inl, inr, arith, drop-drop}
+use Rattle.std.proofs.Common.{◌≡◌, ℕ, ◌+◌, ◌<◌, Bool, List, [], ◌∷◌, ◌++◌, length, get_or, take, drop, set, sym, refl, ap, ◌∙◌, subst, inl, inr, arith, drop-drop}
 use Rattle.std.proofs.lemmas.List.{take_more, take_more_set, drop-set-lt}
-use Rattle.rulebook.specs.Model.{Abstract}
 use Rattle.histories.specs.declared.calls.Call.{Call}
 use Rattle.reduction.specs.declared.Counts.{Counts}
 use Rattle.histories.specs.declared.calls.Call.TheVariants.{Reduce}
 use Rattle.histories.specs.declared.calls.Answer.{Answer}
 use Rattle.histories.specs.declared.calls.Answer.TheVariants as answer
-use Rattle.histories.specs.Present.{left_by, present}
+use Rattle.histories.specs.Present.{present}
 use Rattle.histories.specs.Moments.{Moment, Whole, Start, ReducedRight, Step, History}
 
 module _ {P V : Type 0} (text : List V) (holds : P → V → Bool) (sat : P → Bool) where

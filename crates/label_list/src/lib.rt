@@ -2,6 +2,7 @@
 //
 // A list is read in one pass, line by line; the labels go into a `Vec`, so that nothing is said of a list before it was
 // accepted whole.
+#![tactic(auto)]
 
 ghost use Rattle.std.specs.Prelude.{◌≡◌, ◌+◌, ◌^◌, ◌<◌, ◌≤◌, List, [], length, Ok, Err, MatchResult, ◌≢◌};
 ghost use Rattle.labels.specs.CutLists.{cuts_of};

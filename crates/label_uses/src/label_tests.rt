@@ -133,6 +133,9 @@ fn a_sum_three_deep_writes_nothing_where_there_is_no_room(rt: HostRuntime) {
     assert!(rt; short[0] == b'#' && short[62] == b'#');
     let mut out = [b'#'; 64];
     assert_eq!(rt; a.write(p, &mut out), Some(64));
-    assert!(rt; &out[0..64] == b"0000000000000001000000000000000200000000000000040000000000000003".as_slice());
+    assert!(rt;
+        &out[0..64]
+            == b"0000000000000001000000000000000200000000000000040000000000000003".as_slice()
+    );
     assert!(rt; read_whole(&a, &out).is_some());
 }

@@ -1,4 +1,5 @@
 // Uses of the label crates: generic code at a sum of sums, and their tests.
+#![tactic(auto)]
 
 ghost use Rattle.std.specs.Prelude.{Decides};
 ghost use Rattle.label_uses.specs.Deep.{WithinLeaves};

@@ -5,6 +5,7 @@
 // written, so each label is worked out twice, once to see whether it is empty and once to be written: for n states and m arrows
 // at most n · m joins each time, and otherwise some steps for each pair of states. Nothing is allocated, and local arrays hold
 // numbers and flags only.
+#![tactic(auto)]
 
 ghost use Rattle.std.specs.Prelude.{◌≡◌, length, take, IfSome, IfNone, MatchOption};
 ghost use Rattle.automata.specs.Automata.{automaton};

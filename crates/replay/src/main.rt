@@ -2,6 +2,7 @@
 //
 // Standard input is a script; the program prints what each call answers, and then what the book holds. What is read is
 // proved in the crate `script`, and what the calls do in `rulebook` and `histories`; the layout of the output is tested.
+#![tactic(auto)]
 
 ghost use Rattle.rulebook.specs.View.{view};
 ghost use Rattle.histories.specs.Held.{Held};

@@ -1,4 +1,5 @@
 // Tests of books and of histories on small examples over style marks.
+#![tactic(auto)]
 
 #[cfg(test)]
 mod calls;

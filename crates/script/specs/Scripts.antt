@@ -1,5 +1,5 @@
 -- What a whole text says, or its first fault.
-use Rattle.std.specs.Prelude.{◌≡◌, ℕ, ◌+◌, ◌%◌, ◌^◌, List, [], ◌∷◌, ◌++◌, length, Some, None, Ok, Err, Option, Result, ◌≢◌}
+use Rattle.std.specs.Prelude.{◌≡◌, ℕ, ◌+◌, List, [], ◌∷◌, ◌++◌, length, Some, None, Ok, Err, Option, Result, ◌≢◌}
 use Rattle.std.specs.List.{AllByRecursion as All}
 use Rattle.labels.specs.Segments.{Rising}
 use Rattle.labels.specs.declared.sum.Both.{Both}
@@ -8,13 +8,9 @@ use Rattle.lines.specs.declared.Fault.{Fault}
 use Rattle.lines.specs.declared.Fault.TheVariants as fault
 use Rattle.lines.specs.declared.Place.{Place}
 use Rattle.header.specs.CutLine.{cut_line_text, cut_line}
-use Rattle.written.specs.Hex.{hexes, hex_read}
-use Rattle.written.specs.Texts.{reads_word, reads_both}
 use Rattle.written.specs.declared.Reading.{Reading}
 use Rattle.histories.specs.declared.calls.Call.{Call}
 use Rattle.histories.specs.declared.calls.Call.TheVariants as call
-use Rattle.label_list.specs.declared.Refusal.{Refusal}
-use Rattle.label_list.specs.declared.Refusal.TheVariants as refusal
 use Rattle.label_list.specs.Lists.{further, next, styled_reads, styled_text}
 use Rattle.script.specs.Lines.{Line, Symbol, Fits, lines_text, line_call, line_symbols, calls_of, symbols_of}
 use Rattle.script.specs.Reads.{and_then, over, line_says}

@@ -2,6 +2,7 @@
 //
 // A script is cuts and a list of calls on a book. It is read in one pass, line by line; the calls, and the symbols of
 // their words, go into `Vec`s, so that nothing is carried out of a script before it was accepted whole.
+#![tactic(auto)]
 
 ghost use Rattle.std.specs.Prelude.{◌≡◌, ◌+◌, ◌^◌, ◌<◌, ◌≤◌, [], length, Ok, Err, MatchResult};
 ghost use Rattle.labels.specs.CutLists.{cuts_of};

@@ -1,4 +1,5 @@
 // Tests of `script`: texts, each with its fault or with the calls that it says.
+#![tactic(auto)]
 
 #[cfg(test)]
 mod call_tests;

@@ -1,8 +1,4 @@
-use Rattle.std.proofs.Common.{◌≡◌, length, sym, refl, ap, ◌∙◌, subst, rules}
-use Rattle.rulebook.specs.Model.{copying}
-use Rattle.rulebook.specs.View.{view, kept}
-use Rattle.histories.specs.declared.calls.Answer.TheVariants.{Done}
-use Rattle.histories.specs.Moments.{said, Copies}
+use Rattle.std.proofs.Common.{rules}
 use Rattle.histories.proofs.Parts.{part_is, copies_part}
 use Rattle.histories.proofs.performing.copy_rows.Goals as goal
 

@@ -1,7 +1,6 @@
-use Rattle.std.proofs.Common.{◌≡◌, sym, refl, ap, ◌∙◌, subst}
-use Rattle.rulebook.specs.View.{view, kept}
+use Rattle.std.proofs.Common.{refl}
+use Rattle.rulebook.specs.View.{view}
 use Rattle.histories.specs.declared.calls.Call.TheVariants as call
-use Rattle.histories.specs.declared.calls.Answer.TheVariants as answer
 use Rattle.histories.specs.Held.{moment}
 use Rattle.rulebook.proofs.Edits.{state_added, re_marked, arrow_added, struck}
 use Rattle.histories.proofs.Carrying.{edit_step, open_step, settle_step, ask_step, copy_step, word_step, reduce_step, step_of, held_edited}

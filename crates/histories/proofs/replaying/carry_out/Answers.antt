@@ -1,4 +1,4 @@
-use Rattle.std.proofs.Common.{◌≡◌, ℕ, ◌<◌, length, take, drop, sym, refl, ap, ◌∙◌, subst, arith, take_all}
+use Rattle.std.proofs.Common.{◌≡◌, ℕ, ◌<◌, length, take, drop, refl, ◌∙◌, subst, arith, take_all}
 use Rattle.histories.specs.Moments.{Start, History}
 use Rattle.histories.specs.Held.{moment}
 use Rattle.histories.proofs.Turns.{history_turn, start_whole, drop_turn}

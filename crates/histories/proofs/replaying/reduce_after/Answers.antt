@@ -1,4 +1,4 @@
-use Rattle.std.proofs.Common.{◌≡◌, length, take, sym, refl, ap, ◌∙◌, subst, rules}
+use Rattle.std.proofs.Common.{length, take, ◌∙◌}
 use Rattle.histories.specs.Held.{moment}
 use Rattle.histories.proofs.Turns.{history_reduced}
 use Rattle.histories.proofs.replaying.reduce_after.Goals as goal
