@@ -3,7 +3,7 @@ use Rattle.std.proofs.Common.{◌≡◌, ℕ, zero, suc, ◌+◌, ◌<◌, ◌�
 use mathlib.Core.List.Memᴰ
 use mathlib.Core.List.{Memᴰ}
 use native.Mathlib.Nat.{sub_self}
-use Rattle.std.specs.List.{AllByRecursion as All}
+use Rattle.std.specs.List.{AllByRecursion}
 use Rattle.std.proofs.ByRecursion.{All-append, All-weaker, All-get_or}
 use Rattle.std.proofs.lemmas.List.{length-append, get_or_append_left, get_or-append_right}
 use Rattle.std.proofs.lemmas.Bool.{cases_eq, cases_lt}
@@ -98,12 +98,12 @@ place (x ∷ xs) (Memᴰ.tail m) = let r = place xs m in (suc r.0, omega arith, 
 
 module _ (f : ℕ → Bool) where
   -- what is listed is below n and passes
-  pub rising_all : (n : ℕ) → All (λ c. (c < n) × T (f c)) (rising f n)
+  pub rising_all : (n : ℕ) → AllByRecursion (λ c. (c < n) × T (f c)) (rising f n)
   unfolding rising
   rising_all zero = tt
   rising_all (suc n) = go (f n) (λ t. t) (rising_all n)
     where
-      go : (b : Bool) → (T b → T (f n)) → All (λ c. (c < n) × T (f c)) (rising f n) → All (λ c. (c < suc n) × T (f c)) (rising f n ++ cond b (n ∷ []) [])
+      go : (b : Bool) → (T b → T (f n)) → AllByRecursion (λ c. (c < n) × T (f c)) (rising f n) → AllByRecursion (λ c. (c < suc n) × T (f c)) (rising f n ++ cond b (n ∷ []) [])
       go true i h = All-append (λ c. (c < suc n) × T (f c)) (rising f n) (n ∷ []) (All-weaker (λ c. (c < n) × T (f c)) (λ c. (c < suc n) × T (f c)) (λ c k. (omega arith, k.1)) (rising f n) h) ((omega arith, i tt), tt)
       go false i h = All-append (λ c. (c < suc n) × T (f c)) (rising f n) [] (All-weaker (λ c. (c < n) × T (f c)) (λ c. (c < suc n) × T (f c)) (λ c k. (omega arith, k.1)) (rising f n) h) tt
 

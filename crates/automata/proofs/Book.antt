@@ -1,7 +1,7 @@
 -- The marks and arrows that hold a reduction are it, and there is only one such book. Assumes nothing.
 use Rattle.std.proofs.Common.{◌≡◌, ℕ, zero, suc, ◌<◌, Bool, true, false, ◌||◌, T, eqb, List, [], ◌∷◌, map, length, get_or, drop, sym, refl, ap, ◌∙◌, subst, arith}
 use mathlib.Core.List.{Memᴰ}
-use Rattle.std.specs.List.{AllZip, AllByRecursion as All}
+use Rattle.std.specs.List.{AllZip, AllByRecursion}
 use Rattle.std.proofs.lemmas.List.{length-map, get_or-map}
 use Rattle.automata.specs.declared.Arrow.{Arrow}
 use Rattle.automata.specs.declared.Mark.{Mark}
@@ -140,7 +140,7 @@ module _ {V : Type 0} (M : Automaton V) (K l l' : ℕ → ℕ → Bool) (t : Tel
 
 -- labels that mean the same at the same ends
 labels_same : {P V : Type 0} (holds : P → V → Bool) (F G : ℕ → V → ℕ → Bool) → ((i : ℕ) (a : V) (j : ℕ) → F i a j ≡ G i a j) → (xs ys : List (Arrow P)) → ends xs ≡ ends ys
-    → All (λ x. (a : V) → holds x.label a ≡ F x.source a x.target) xs → All (λ x. (a : V) → holds x.label a ≡ G x.source a x.target) ys → AllZip (λ x y. (a : V) → holds x.label a ≡ holds y.label a) xs ys
+    → AllByRecursion (λ x. (a : V) → holds x.label a ≡ F x.source a x.target) xs → AllByRecursion (λ x. (a : V) → holds x.label a ≡ G x.source a x.target) ys → AllZip (λ x y. (a : V) → holds x.label a ≡ holds y.label a) xs ys
 labels_same holds F G same [] [] e f g = tt
 labels_same holds F G same [] (y ∷ ys) e f g = absurd (let z = ap length e in omega arith)
 labels_same holds F G same (x ∷ xs) [] e f g = absurd (let z = ap length e in omega arith)

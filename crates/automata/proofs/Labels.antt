@@ -1,7 +1,7 @@
 -- The labels of classes, joined over arrows, hold of what the classes read. Assumes nothing.
 use Rattle.std.proofs.Common.{◌≡◌, ℕ, Bool, true, false, cond, not, ◌&&◌, ◌||◌, T, eqb, List, [], ◌∷◌, length, sym, refl, ap, ◌∙◌, subst, ⊎_elim, arith, eqb→eq}
 use mathlib.Core.List.{Memᴰ}
-use Rattle.std.specs.List.{AllByRecursion as All}
+use Rattle.std.specs.List.{AllByRecursion}
 use Rattle.automata.specs.declared.Arrow.{Arrow}
 use Rattle.automata.specs.declared.Mark.{Mark}
 use Rattle.automata.specs.Below.{any_below}
@@ -13,7 +13,7 @@ use Rattle.automata.proofs.Tests.{both, parts, or_l, or_r, ways, TSame, forth, b
 use Rattle.automata.proofs.Below.{found, finds}
 use Rattle.automata.proofs.Names.{equal, name_le, member_from, member_to}
 
-pub all_mem : {X : Type 0} (P : X → Type 0) (x : X) (xs : List X) → All P xs → Memᴰ x xs → P x
+pub all_mem : {X : Type 0} (P : X → Type 0) (x : X) (xs : List X) → AllByRecursion P xs → Memᴰ x xs → P x
 all_mem P x [] h m = elim m [ ]
 all_mem P x (y ∷ xs) h (Memᴰ.head e) = subst P (sym e) h.0
 all_mem P x (y ∷ xs) h (Memᴰ.tail m) = all_mem P x xs h.1 m
@@ -57,7 +57,7 @@ pub leads_to : {P : Type 0} (p q : ℕ) (x : Arrow P) → T (leads p q x) → (x
 leads_to p q x t = let k = parts (eqb x.source p) (eqb x.target q) t in (eqb→eq x.source p k.0, eqb→eq x.target q k.1)
 
 -- what is joined over the arrows of a class is what the class reads
-module _ {P V : Type 0} (h : P → V → Bool) (marks : List Mark) (arrows : List (Arrow P)) (K : ℕ → ℕ → Bool) (within : All (Within (length marks)) arrows) where
+module _ {P V : Type 0} (h : P → V → Bool) (marks : List Mark) (arrows : List (Arrow P)) (K : ℕ → ℕ → Bool) (within : AllByRecursion (Within (length marks)) arrows) where
   pub merged_is : (c d : ℕ) (a : V) → some_label h (between K c d) arrows a ≡ (Merged (automaton h marks arrows) K).reads c a d
   merged_is c d a = TSame (some_label h (between K c d) arrows a) ((Merged (automaton h marks arrows) K).reads c a d) there again
     where
@@ -117,7 +117,7 @@ module _ {P V : Type 0} (A : Algebra P V) (law : Lawful A) where
       go true e = law.join x.label (joined A f xs) a ∙ ap (λ y. A.holds x.label a || y) e
       go false e = e
 
-  module _ (marks : List Mark) (arrows : List (Arrow P)) (K : ℕ → ℕ → Bool) (within : All (Within (length marks)) arrows) where
+  module _ (marks : List Mark) (arrows : List (Arrow P)) (K : ℕ → ℕ → Bool) (within : AllByRecursion (Within (length marks)) arrows) where
     merged : (c d : ℕ) (a : V) → A.holds (merged_label A arrows K c d) a ≡ (Merged (automaton A.holds marks arrows) K).reads c a d
     merged c d a = joined_is (between K c d) arrows a ∙ merged_is A.holds marks arrows K within c d a
 

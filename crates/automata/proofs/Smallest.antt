@@ -1,6 +1,6 @@
 -- A reduced automaton is a least one among those that simulate it and that it simulates. Assumes nothing.
 use Rattle.std.proofs.Common.{◌≡◌, ℕ, ◌<◌, ◌≤◌, Bool, T, List, [], ◌∷◌, length, sym, subst}
-use Rattle.std.specs.List.{AllZip, AllByRecursion as All}
+use Rattle.std.specs.List.{AllZip, AllByRecursion}
 use Rattle.std.proofs.lemmas.List.Elements.{length_all_zip}
 use Rattle.automata.specs.Automata.{Automaton, Reachable, start, step, Linked, Links, Distinct}
 use Rattle.automata.specs.Simulation.{SimulatedBy}
@@ -55,7 +55,7 @@ module _ {V : Type 0} (A B : Automaton V) (K : ℕ → ℕ → Bool) (red : Redu
   abbrev Link : Automaton V → ℕ × ℕ → Type 0
   Link M x = (x.0 < M.size) × (x.1 < M.size) × Linked M x.0 x.1
 
-  over : (l : List (ℕ × ℕ)) → All (Link A) l → (m : List (ℕ × ℕ)) × All (Link B) m × AllZip Over l m
+  over : (l : List (ℕ × ℕ)) → AllByRecursion (Link A) l → (m : List (ℕ × ℕ)) × AllByRecursion (Link B) m × AllZip Over l m
   over [] h = ([], tt, tt)
   over (x ∷ xs) h =
       let k = h.0 in
@@ -67,7 +67,7 @@ module _ {V : Type 0} (A B : Automaton V) (K : ℕ → ℕ → Bool) (red : Redu
   single : (x z y w : ℕ × ℕ) → Over x y → Over z w → y ≡ w → x ≡ z
   single x z y w o u e = λ i. (one o.0 (subst (λ (v : ℕ × ℕ). Twin z.0 v.0) (sym e) u.0) i, one o.1 (subst (λ (v : ℕ × ℕ). Twin z.1 v.1) (sym e) u.1) i)
 
-  apart : (x y : ℕ × ℕ) → Over x y → (xs ys : List (ℕ × ℕ)) → AllZip Over xs ys → All (λ z. x ≡ z → ⊥) xs → All (λ z. y ≡ z → ⊥) ys
+  apart : (x y : ℕ × ℕ) → Over x y → (xs ys : List (ℕ × ℕ)) → AllZip Over xs ys → AllByRecursion (λ z. x ≡ z → ⊥) xs → AllByRecursion (λ z. y ≡ z → ⊥) ys
   apart x y o [] [] os h = tt
   apart x y o [] (w ∷ ys) os h = absurd os
   apart x y o (z ∷ xs) [] os h = absurd os

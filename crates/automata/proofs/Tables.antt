@@ -2,7 +2,7 @@
 use Rattle.std.proofs.Common.{◌≡◌, ℕ, zero, suc, ◌+◌, ◌<◌, ◌≤◌, Bool, true, false, cond, T, ◌⊎◌, List, [], ◌∷◌, ◌++◌, map, length, sym, refl, ap, ◌∙◌, subst, inl, inr, zero-le, not-suc-le-zero, arith}
 use mathlib.Core.List.Memᴰ
 use mathlib.Core.List.{Memᴰ}
-use Rattle.std.specs.List.{AllByRecursion as All}
+use Rattle.std.specs.List.{AllByRecursion}
 use Rattle.std.proofs.ByRecursion.{All-append, All-weaker, All-map}
 use Rattle.std.proofs.lemmas.List.{length-append, length-map}
 use Rattle.std.proofs.lemmas.Bool.{cases_eq}
@@ -27,19 +27,19 @@ module _ {X : Type 0} where
           other y ne (Memᴰ.head u) = Memᴰ.head u
           other y ne (Memᴰ.tail u) = Memᴰ.tail (r.2 y ne u)
 
-  each : {P Q R : X → Type 0} (l : List X) → ((x : X) → P x → Q x → R x) → All P l → All Q l → All R l
+  each : {P Q R : X → Type 0} (l : List X) → ((x : X) → P x → Q x → R x) → AllByRecursion P l → AllByRecursion Q l → AllByRecursion R l
   each [] f p q = tt
   each (x ∷ l) f p q = (f x p.0 q.0, each l f p.1 q.1)
 
   -- a list with no two alike, and all in another, is no longer
-  pub fits : (l m : List X) → Distinct l → All (λ x. Memᴰ x m) l → length l ≤ length m
+  pub fits : (l m : List X) → Distinct l → AllByRecursion (λ x. Memᴰ x m) l → length l ≤ length m
   fits [] m d h = zero-le
   fits (x ∷ l) m d h =
       let w = without m h.0 in
       let i = fits l w.0 d.1 (each l w.2 d.0 h.1) in
       omega arith
 
-  distinct_append : {P : X → Type 0} (l m : List X) → Distinct l → Distinct m → All P l → ((x : X) → P x → All (λ y. x ≡ y → ⊥) m) → Distinct (l ++ m)
+  distinct_append : {P : X → Type 0} (l m : List X) → Distinct l → Distinct m → AllByRecursion P l → ((x : X) → P x → AllByRecursion (λ y. x ≡ y → ⊥) m) → Distinct (l ++ m)
   distinct_append [] m d e p h = e
   distinct_append (x ∷ l) m d e p h = (All-append (λ y. x ≡ y → ⊥) l m d.0 (h x p.0), distinct_append l m d.1 e p.1 h)
 
@@ -71,11 +71,11 @@ module _ (R : ℕ → ℕ → Bool) (n : ℕ) where
   abbrev In : ℕ → ℕ × ℕ → Type 0
   In m x = (x.0 < m) × (x.1 < n) × T (R x.0 x.1)
 
-  row_all : (m : ℕ) → All (λ x. (x.0 ≡ m) × In (suc m) x) (map (beside m) (rising (R m) n))
+  row_all : (m : ℕ) → AllByRecursion (λ x. (x.0 ≡ m) × In (suc m) x) (map (beside m) (rising (R m) n))
   row_all m = All-map (λ x. (x.0 ≡ m) × In (suc m) x) (beside m) (rising (R m) n) (All-weaker (λ c. (c < n) × T (R m c)) (λ c. (m ≡ m) × In (suc m) (beside m c)) (λ c k. (refl, (omega arith, k.0, k.1))) (rising (R m) n) (rising_all (R m) n))
 
   -- what is listed passes
-  pub rows_all : (m : ℕ) → All (In m) (rows R n m)
+  pub rows_all : (m : ℕ) → AllByRecursion (In m) (rows R n m)
   unfolding rows
   rows_all zero = tt
   rows_all (suc m) =

@@ -1,7 +1,7 @@
 -- Automata over any type of symbols, made from marks and arrows; the words that they accept, and the states that they reach.
 -- Sets and relations are tests, and only states below `size` count. Assumes nothing.
 use Rattle.std.specs.Prelude.{ℕ, ◌<◌, Bool, true, false, ◌&&◌, ◌||◌, T, List, [], ◌∷◌, length, ◌==◌, ◌≢◌, slice_index_or}
-use Rattle.std.specs.List.{AllByRecursion as All}
+use Rattle.std.specs.List.{AllByRecursion}
 use Rattle.automata.specs.declared.Arrow.{Arrow}
 use Rattle.automata.specs.declared.Mark.{Mark}
 use Rattle.automata.specs.declared.Mark.TheVariants.{Neither, Initial, Accepting, Both}
@@ -79,9 +79,9 @@ module _ {V : Type 0} where
 -- no two places hold the same
 abbrev pub Distinct : {X : Type 0} → List X → Type 0
 Distinct [] = Unit {0}
-Distinct (x ∷ xs) = All (λ y. x ≢ y) xs × Distinct xs
+Distinct (x ∷ xs) = AllByRecursion (λ y. x ≢ y) xs × Distinct xs
 
 -- different pairs of linked states
 pub record Links {V : Type 0} (M : Automaton V) (l : List (ℕ × ℕ)) : Type 0 where
-  pub linked : All (λ x. (x.0 < M.size) × (x.1 < M.size) × Linked M x.0 x.1) l
+  pub linked : AllByRecursion (λ x. (x.0 < M.size) × (x.1 < M.size) × Linked M x.0 x.1) l
   pub distinct : Distinct l

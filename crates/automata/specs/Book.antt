@@ -1,6 +1,6 @@
 -- What it is for a list of marks, a list of arrows and a relation to hold a reduction. Assumes nothing.
 use Rattle.std.specs.Prelude.{◌≡◌, ℕ, ◌<◌, Bool, List, map, length}
-use Rattle.std.specs.List.{AllZip, AllByRecursion as All}
+use Rattle.std.specs.List.{AllZip, AllByRecursion}
 use Rattle.automata.specs.declared.Arrow.{Arrow}
 use Rattle.automata.specs.declared.Mark.{Mark}
 use Rattle.automata.specs.Automata.{Automaton}
@@ -15,7 +15,7 @@ pub record ReducedBook {P V : Type 0} (holds : P → V → Bool) (M : Automaton 
   pub told : Tells M K linked
   pub marked : marks ≡ reduced_marks M K linked
   pub drawn : ends arrows ≡ reduced_ends M K linked
-  pub labelled : All (λ x. (a : V) → holds x.label a ≡ (Reduction M K linked).reads x.source a x.target) arrows
+  pub labelled : AllByRecursion (λ x. (a : V) → holds x.label a ≡ (Reduction M K linked).reads x.source a x.target) arrows
   pub kept : (i j : ℕ) → i < length marks → j < length marks → L i j ≡ reduced_kept M K linked i j
 
 -- the same marks, ends and kept pairs, and labels that hold of the same symbols

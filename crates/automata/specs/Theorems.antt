@@ -1,6 +1,6 @@
 -- The theorems, each the contract of a function. Assumes nothing.
 use Rattle.std.specs.Prelude.{◌≡◌, ℕ, ◌<◌, ◌≤◌, Bool, T, List, length, ◌==◌, ◌≢◌, nat_eq}
-use Rattle.std.specs.List.{AllByRecursion as All}
+use Rattle.std.specs.List.{AllByRecursion}
 use Rattle.automata.specs.declared.Arrow.{Arrow}
 use Rattle.automata.specs.declared.Mark.{Mark}
 use Rattle.automata.specs.Automata.{Automaton, automaton, Accepts, Reachable, Within}
@@ -51,11 +51,11 @@ Fewest V = (M : Automaton V) (K linked : ℕ → ℕ → Bool) → Greatest M K 
 
 -- the reads of step 2 and of step 4, written with join, meet and complement
 pub record Labelled (P V : Type 0) : Type 0 where
-  pub merged : (A : Algebra P V) → Lawful A → (marks : List Mark) (arrows : List (Arrow P)) (K : ℕ → ℕ → Bool) → All (Within (length marks)) arrows
+  pub merged : (A : Algebra P V) → Lawful A → (marks : List Mark) (arrows : List (Arrow P)) (K : ℕ → ℕ → Bool) → AllByRecursion (Within (length marks)) arrows
       → (c d : ℕ) (a : V) → A.holds (merged_label A arrows K c d) a ≡ (Merged (automaton A.holds marks arrows) K).reads c a d
-  pub pruned : (A : Algebra P V) → Lawful A → (marks : List Mark) (arrows : List (Arrow P)) (K : ℕ → ℕ → Bool) → All (Within (length marks)) arrows
+  pub pruned : (A : Algebra P V) → Lawful A → (marks : List Mark) (arrows : List (Arrow P)) (K : ℕ → ℕ → Bool) → AllByRecursion (Within (length marks)) arrows
       → (c d : ℕ) (a : V) → A.holds (pruned_label A arrows K c d) a ≡ (Pruned (automaton A.holds marks arrows) K).reads c a d
-  pub told : (A : Algebra P V) → Lawful A → (marks : List Mark) (arrows : List (Arrow P)) (K : ℕ → ℕ → Bool) → All (Within (length marks)) arrows
+  pub told : (A : Algebra P V) → Lawful A → (marks : List Mark) (arrows : List (Arrow P)) (K : ℕ → ℕ → Bool) → AllByRecursion (Within (length marks)) arrows
       → Tells (automaton A.holds marks arrows) K (λ c d. A.satisfiable (pruned_label A arrows K c d))
 
 -- marks and arrows that hold a reduction are that automaton, so that it is minimal; and there is only one such book

@@ -1,6 +1,6 @@
 -- The join of the labels of one state's arrows to the states above another. Assumes nothing.
 use Rattle.std.proofs.Common.{◌≡◌, ℕ, ◌+◌, ◌<◌, ◌≤◌, Bool, true, false, ◌||◌, List, length, get_or, Decides, sym, refl, ap, ◌∙◌, inl, inr, arith}
-use Rattle.std.specs.List.{AllByRecursion as All}
+use Rattle.std.specs.List.{AllByRecursion}
 use Rattle.std.proofs.ByRecursion.{All-get_or}
 use Rattle.std.proofs.lemmas.Bool.{or_cases, or_left, or_right, both_ways}
 use Rattle.automata.specs.declared.Arrow.{Arrow}
@@ -25,7 +25,7 @@ module _ {P V : Type 0} (h : P → V → Bool) (marks : List Mark) (xs : List (A
 
   module _ (ends : List ℕ) (hi : ℕ) (s : Segment (sources xs) (targets xs) (length xs) places ends q lo hi) where
     -- one arrow more, to a state above t
-    pub joining_more : All (Within (length marks)) xs → (all new : P) (i : ℕ) (d : Arrow P) → lo ≤ i → i < hi → K t (get_or ends i 0) ≡ true
+    pub joining_more : AllByRecursion (Within (length marks)) xs → (all new : P) (i : ℕ) (d : Arrow P) → lo ≤ i → i < hi → K t (get_or ends i 0) ≡ true
         → ((a : V) → h new a ≡ (h all a || h (get_or xs (get_or places i 0) d).label a)) → Joining all i → Joining new (i + 1)
     joining_more within all new i d l u k join was =
         let x = get_or xs (get_or places i 0) d in

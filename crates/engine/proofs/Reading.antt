@@ -1,7 +1,7 @@
 -- What arrows say of the reads of an automaton. Assumes nothing.
 use Rattle.std.proofs.Common.{◌≡◌, ℕ, zero, suc, ◌<◌, Bool, true, T, List, [], ◌∷◌, length, get_or, refl, subst, le_of_suc-le-suc, not-suc-le-zero}
 use mathlib.Core.List.{Memᴰ}
-use Rattle.std.specs.List.{HoldsAt, AllByRecursion as All}
+use Rattle.std.specs.List.{HoldsAt, AllByRecursion}
 use Rattle.std.proofs.lemmas.List.{get_or_default}
 use Rattle.automata.specs.declared.Arrow.{Arrow}
 use Rattle.automata.specs.Automata.{some_label, leads}
@@ -30,7 +30,7 @@ module _ {P V : Type 0} (h : P → V → Bool) (xs : List (Arrow P)) (p q : ℕ)
   reads_at i d lt s t l = label_finds h (leads p q) a (get_or xs i d) xs (mem_get_or xs i d lt) (leads_from p q (get_or xs i d) s t) (passes (h (get_or xs i d).label a) l)
 
   -- what is read some arrow says
-  pub reads_by : (G : Arrow P → Type 0) → All G xs → T (some_label h (leads p q) xs a) → (x : Arrow P) × G x × (x.source ≡ p) × (x.target ≡ q) × (h x.label a ≡ true)
+  pub reads_by : (G : Arrow P → Type 0) → AllByRecursion G xs → T (some_label h (leads p q) xs a) → (x : Arrow P) × G x × (x.source ≡ p) × (x.target ≡ q) × (h x.label a ≡ true)
   reads_by G all t =
       let f = label_found h (leads p q) a xs t in
       let x = f.0 in

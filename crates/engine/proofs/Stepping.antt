@@ -1,6 +1,6 @@
 -- One step of the word test, and all steps. Assumes nothing.
 use Rattle.std.proofs.Common.{◌≡◌, ℕ, ◌+◌, ◌<◌, ◌≤◌, Bool, true, false, T, ◌⊎◌, List, [], ◌∷◌, length, get_or, drop, set, replicate, Decides, sym, ap, ◌∙◌, subst, inl, inr, ⊎_elim, arith, get_or-set_other, get_or-set_same}
-use Rattle.std.specs.List.{AllWithin, AllByRecursion as All}
+use Rattle.std.specs.List.{AllWithin, AllByRecursion}
 use Rattle.std.proofs.lemmas.List.Elements.{AllWithin-more, at_read}
 use Rattle.std.proofs.ByRecursion.{all_from_every}
 use Rattle.std.proofs.lemmas.List.{drop_more, drop_all, get_or_past, get_or-replicate, length-replicate}
@@ -97,5 +97,5 @@ flags_none n q = elim (cases_lt q n) [
 pub led_alone : {L : Type 0} (n q : ℕ) (r : Bool) → Decides r ((get_or (replicate n false) q false ≡ true) ⊎ L) → Decides r L
 led_alone n q r d = ((λ e. ⊎_elim (λ on. absurd (both_ways (get_or (replicate n false) q false) (flags_none n q) on)) (λ l. l) (d.0 e)), (λ l. d.1 (inr l)))
 
-pub reads_within : {P V : Type 0} (h : P → V → Bool) (marks : List Mark) (xs : List (Arrow P)) → All (Within (length marks)) xs → (a : V) (p q : ℕ) → T ((automaton h marks xs).reads p a q) → p < length marks
+pub reads_within : {P V : Type 0} (h : P → V → Bool) (marks : List Mark) (xs : List (Arrow P)) → AllByRecursion (Within (length marks)) xs → (a : V) (p q : ℕ) → T ((automaton h marks xs).reads p a q) → p < length marks
 reads_within h marks xs within a p q t = let f = reads_by h xs p q a (Within (length marks)) within t in subst (λ y. y < length marks) f.2 f.1.0

@@ -1,7 +1,7 @@
 -- Pairs that go from a column: none of them is of a simulation, and what stays is answered. Assumes nothing.
 use Rattle.std.proofs.Common.{◌≡◌, ℕ, ◌+◌, ◌<◌, ◌≤◌, Bool, true, false, T, eqb, List, length, get_or, Decides, sym, refl, ap, ◌∙◌, subst, inl, inr, arith}
 use lib.Dec.{eqb_refl}
-use Rattle.std.specs.List.{AllByRecursion as All}
+use Rattle.std.specs.List.{AllByRecursion}
 use Rattle.std.proofs.ByRecursion.{All-get_or, All-weaker, all_from_every}
 use Rattle.std.proofs.lemmas.Bool.{cases_eq, both_ways}
 use Rattle.bits.specs.Matrix.{pair, Changed}
@@ -66,8 +66,8 @@ module _ {P V : Type 0} (h : P → V → Bool) (marks : List Mark) (xs : List (A
     striking_none = (swept_none (automaton h marks xs) old, (λ _ _ _. refl), λ j l u. absurd (omega arith))
 
     -- no other state that is kept below q has an arrow to t, and q answers itself
-    pub met_apart : (preds below : List ℕ) → All (Within (length marks)) xs → All (λ x. pair preds x.target x.source ≡ true) xs → Wide (automaton h marks xs) (pair old) → Gathered (length marks) q old below
-        → ((p : ℕ) → pair preds t p ≡ true → pair below 0 p ≡ true → ⊥) → All (Met h (automaton h marks xs) old old q t) xs
+    pub met_apart : (preds below : List ℕ) → AllByRecursion (Within (length marks)) xs → AllByRecursion (λ x. pair preds x.target x.source ≡ true) xs → Wide (automaton h marks xs) (pair old) → Gathered (length marks) q old below
+        → ((p : ℕ) → pair preds t p ≡ true → pair below 0 p ≡ true → ⊥) → AllByRecursion (Met h (automaton h marks xs) old old q t) xs
     met_apart preds below within has wide g apart = all_from_every (Met h (automaton h marks xs) old old q t) xs (λ k d _ lt e on a l.
         let x = get_or xs k d in
         let w = All-get_or (Within (length marks)) xs k d lt within in
@@ -100,7 +100,7 @@ module _ {P V : Type 0} (h : P → V → Bool) (marks : List Mark) (xs : List (A
         )
 
         -- it is not, and the pair goes
-        pub striking_more : (mid new : List ℕ) (k i : ℕ) (d : Arrow P) → All (Within (length marks)) xs → q < length marks → lo ≤ i → i < hi → pair mid (get_or ends i 0) q ≡ true
+        pub striking_more : (mid new : List ℕ) (k i : ℕ) (d : Arrow P) → AllByRecursion (Within (length marks)) xs → q < length marks → lo ≤ i → i < hi → pair mid (get_or ends i 0) q ≡ true
             → (((a : V) → h (get_or xs (get_or places i 0) d).label a ≡ true → h all a ≡ true) → ⊥) → Changed false mid new (get_or ends i 0) q → Striking mid k i → Striking new (k + 1) (i + 1)
         striking_more mid new k i d within hq l u kept unfit c was =
             let M = automaton h marks xs in
@@ -122,7 +122,7 @@ module _ {P V : Type 0} (h : P → V → Bool) (marks : List Mark) (xs : List (A
               placed_more (Met h M old mid q t) (Met h M old new q t) xs places lo i (met_later old mid new t (changed_fewer mid new p q c)) (left_out new i l u c.here) was.2,
             )
 
-      pub striking_all : (new : List ℕ) (k i : ℕ) → hi ≤ i → Striking new k i → All (Met h (automaton h marks xs) old new q t) xs
+      pub striking_all : (new : List ℕ) (k i : ℕ) → hi ≤ i → Striking new k i → AllByRecursion (Met h (automaton h marks xs) old new q t) xs
       striking_all new k i top was =
           let M = Met h (automaton h marks xs) old new q t in
           All-weaker (λ x. x.target ≡ t → M x) M (λ x w e. w e e) xs (placed_all (λ x. x.target) (λ x. x.source) xs places ends t lo hi s M i top was.2)
@@ -131,15 +131,15 @@ module _ {P V : Type 0} (h : P → V → Bool) (marks : List Mark) (xs : List (A
 
   -- so far
   abbrev pub Columned : List ℕ → List ℕ → ℕ → ℕ → Type 0
-  Columned old new k t = Swept (automaton h marks xs) old new k × Only q old new × ((u : ℕ) → u < t → All (Met h (automaton h marks xs) old new q u) xs)
+  Columned old new k t = Swept (automaton h marks xs) old new k × Only q old new × ((u : ℕ) → u < t → AllByRecursion (Met h (automaton h marks xs) old new q u) xs)
 
-  pub columned_more : (old mid new : List ℕ) (j k t : ℕ) → Columned old mid j t → Swept (automaton h marks xs) mid new k → Only q mid new → All (Met h (automaton h marks xs) mid new q t) xs → Columned old new (j + k) (t + 1)
+  pub columned_more : (old mid new : List ℕ) (j k t : ℕ) → Columned old mid j t → Swept (automaton h marks xs) mid new k → Only q mid new → AllByRecursion (Met h (automaton h marks xs) mid new q t) xs → Columned old new (j + k) (t + 1)
   columned_more old mid new j k t was sw only met =
       let M = automaton h marks xs in (
         swept_then M old mid new j k was.0 sw,
         (λ i j ne. only i j ne ∙ was.1 i j ne),
         λ u l. elim (cases_eq u t) [
-          | inl e ↦ subst (λ y. All (Met h M old new q y) xs) (sym e) (All-weaker (Met h M mid new q t) (Met h M old new q t) (met_earlier old mid new t was.0.fewer) xs met)
+          | inl e ↦ subst (λ y. AllByRecursion (Met h M old new q y) xs) (sym e) (All-weaker (Met h M mid new q t) (Met h M old new q t) (met_earlier old mid new t was.0.fewer) xs met)
           | inr ne ↦ All-weaker (Met h M old mid q u) (Met h M old new q u) (met_later old mid new u sw.fewer) xs (was.2 u (omega arith))
         ],
       )

@@ -1,6 +1,6 @@
 -- Flags: what they promise after a visit, and that the work falls. Assumes nothing.
 use Rattle.std.proofs.Common.{◌≡◌, ℕ, ◌+◌, ◌<◌, Bool, true, false, cond, T, List, length, get_or, set, sym, ap, ◌∙◌, subst, inl, inr, arith, get_or-set_other, get_or-set_same}
-use Rattle.std.specs.List.{AllByRecursion as All}
+use Rattle.std.specs.List.{AllByRecursion}
 use Rattle.std.proofs.lemmas.Bool.{cases_eq, cases_Bool, both_ways}
 use Rattle.bits.specs.Matrix.{pair}
 use Rattle.automata.specs.declared.Arrow.{Arrow}
@@ -42,7 +42,7 @@ module _ {V : Type 0} (M : Automaton V) where
 pub quiet_woken : {P V : Type 0} (h : P → V → Bool) (marks : List Mark) (xs : List (Arrow P)) (old new : List ℕ) (q : ℕ) (d e : List Bool)
     → Quiet (automaton h marks xs) old d → ((i j : ℕ) → pair new i j ≡ true → pair old i j ≡ true) → Only q old new
     → ((p : ℕ) → pair new p q ≡ true → Answered (automaton h marks xs) (pair old) p q)
-    → All (Woken q e) xs → ((i : ℕ) → get_or (set d q false) i false ≡ true → get_or e i false ≡ true) → Quiet (automaton h marks xs) new e
+    → AllByRecursion (Woken q e) xs → ((i : ℕ) → get_or (set d q false) i false ≡ true → get_or e i false ≡ true) → Quiet (automaton h marks xs) new e
 quiet_woken h marks xs old new q d e was fewer only done woken stays = quiet_step (automaton h marks xs) old new q d e was fewer done
     (λ r ne f. elim (cases_Bool (get_or d r false)) [
       | inl on ↦ absurd (both_ways (get_or e r false) f (stays r (get_or-set_other d q r false false ne ∙ on)))

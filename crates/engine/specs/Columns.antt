@@ -1,7 +1,7 @@
 -- What the steps of settle promise one another, over the kept pairs before and after a step: the words of private contracts,
 -- which the public ones do not cite. Assumes nothing.
 use Rattle.std.specs.Prelude.{◌≡◌, ℕ, ◌+◌, ◌*◌, ◌<◌, ◌≤◌, Bool, true, false, not, ◌&&◌, ◌||◌, T, List, length, get_or, ◌≢◌, nat_lt, slice_index_or}
-use Rattle.std.specs.List.{AllByRecursion as All}
+use Rattle.std.specs.List.{AllByRecursion}
 use Rattle.bits.specs.Matrix.{pair}
 use Rattle.automata.specs.declared.Arrow.{Arrow}
 use Rattle.automata.specs.declared.Mark.{Mark}
@@ -27,10 +27,10 @@ size b = length b.marks.now
 pub record Ready {P : Type 0} (b : Indexed P) : Type 0 where
   pub states : size b ≤ 256
   pub arrows : length b.arrows.now ≤ 8192
-  pub within : All (Within (size b)) b.arrows.now
+  pub within : AllByRecursion (Within (size b)) b.arrows.now
   pub leaving : Sorted (sources b.arrows.now) (targets b.arrows.now) (length b.arrows.now) b.leaving
   pub entering : Sorted (targets b.arrows.now) (sources b.arrows.now) (length b.arrows.now) b.entering
-  pub preds : All (λ x. pair b.preds x.target x.source ≡ true) b.arrows.now
+  pub preds : AllByRecursion (λ x. pair b.preds x.target x.source ≡ true) b.arrows.now
   pub words : length b.preds ≡ 1024
 
 -- `old` became `new` by k pairs that went, none of them of a simulation

@@ -6,7 +6,7 @@
 // a state still kept is passed over after a look at four words.
 
 ghost use Rattle.std.specs.Prelude.{◌≡◌, ℕ, ◌<◌, ◌≤◌, true, false, length, Decides, ◌≢◌};
-ghost use Rattle.std.specs.List.{AllByRecursion as All};
+ghost use Rattle.std.specs.List.{AllByRecursion};
 ghost use Rattle.bits.specs.Matrix.{pair};
 ghost use Rattle.automata.specs.Simulation.{Answer, Wide};
 ghost use Rattle.engine.specs.Columns.{machine, size, Ready, Gathered, Swept, Only, Answered, Met};
@@ -92,7 +92,7 @@ fn strike<L: LabelAlgebra>(
     requires gathered { Gathered (size book.now) q rows.old below.old }
     ensures swept { Swept (machine (L.LabelAlgebra.holds labels.now) book.now) rows.old rows.new result }
     ensures only { Only q rows.old rows.new }
-    ensures met { All (Met (L.LabelAlgebra.holds labels.now) (machine (L.LabelAlgebra.holds labels.now) book.now) rows.old rows.new q t) book.now.arrows.now }
+    ensures met { AllByRecursion (Met (L.LabelAlgebra.holds labels.now) (machine (L.LabelAlgebra.holds labels.now) book.now) rows.old rows.new q t) book.now.arrows.now }
     ensures gathered { Gathered (size book.now) q rows.new below.new }
 {
     if !is_entered(&book.preds, below, t) {

@@ -5,7 +5,7 @@
 // long chains well, whichever way they are numbered.
 
 ghost use Rattle.std.specs.Prelude.{◌≡◌, ℕ, ◌<◌, ◌≤◌, true, false, ◌⊎◌, length, MatchOption, slice_index_or};
-ghost use Rattle.std.specs.List.{AllByRecursion as All};
+ghost use Rattle.std.specs.List.{AllByRecursion};
 ghost use Rattle.bits.specs.Matrix.{pair};
 ghost use Rattle.automata.specs.Automata.{automaton, Within};
 ghost use Rattle.automata.specs.Simulation.{Wide, Greatest, Keeps};
@@ -23,7 +23,7 @@ fn wake<P: Copy>(book: &Indexed<'_, '_, P>, q: usize, flags: &mut [bool])
     requires flags { length flags.old ≡ 256 }
     requires ready { Ready book.now }
     requires state { q < size book.now }
-    ensures woken { All (Woken q flags.new) book.now.arrows.now }
+    ensures woken { AllByRecursion (Woken q flags.new) book.now.arrows.now }
     ensures stays { (i : ℕ) → slice_index_or flags.old i false ≡ true → slice_index_or flags.new i false ≡ true }
 {
     for i in book.entering.low[q] as usize..book.entering.high[q] as usize {
@@ -124,7 +124,7 @@ fn sweep<L: LabelAlgebra>(labels: &L, book: &Indexed<'_, '_, L::Predicate>, rows
 fn indexed<'m, 'a, P: Copy>(marks: &'m [Mark], arrows: &'a [Arrow<P>]) -> Indexed<'m, 'a, P>
     requires states { length marks.now ≤ 256 }
     requires arrows { length arrows.now ≤ 8192 }
-    requires within { All (Within (length marks.now)) arrows.now }
+    requires within { AllByRecursion (Within (length marks.now)) arrows.now }
     ensures marks { result.marks.now ≡ marks.now }
     ensures arrows { result.arrows.now ≡ arrows.now }
     ensures ready { Ready result }
@@ -150,7 +150,7 @@ pub fn settle<L: LabelAlgebra>(
     requires rows { length rows.old ≡ 1024 }
     requires states { length marks.now ≤ 256 }
     requires arrows { length arrows.now ≤ 8192 }
-    requires within { All (Within (length marks.now)) arrows.now }
+    requires within { AllByRecursion (Within (length marks.now)) arrows.now }
     ensures keeps { Keeps (automaton (L.LabelAlgebra.holds labels.now) marks.now arrows.now) (pair rows.new) }
     ensures greatest { Greatest (automaton (L.LabelAlgebra.holds labels.now) marks.now arrows.now) (pair rows.new) }
     ensures empty { (p q : ℕ) → (length marks.now ≤ p) ⊎ (length marks.now ≤ q) → pair rows.new p q ≡ false }

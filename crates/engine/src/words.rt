@@ -4,7 +4,7 @@
 // read by nothing, so that no state is live after it.
 
 ghost use Rattle.std.specs.Prelude.{◌≡◌, ℕ, ◌<◌, ◌≤◌, true, false, T, ◌⊎◌, length, Decides, slice_index_or};
-ghost use Rattle.std.specs.List.{AllByRecursion as All};
+ghost use Rattle.std.specs.List.{AllByRecursion};
 ghost use Rattle.automata.specs.declared.Mark.TheVariants.{Neither};
 ghost use Rattle.automata.specs.Automata.{automaton, some_label, leads, mark_is_start, mark_accepts, Within, Accepts};
 
@@ -21,7 +21,7 @@ pub fn step<L: LabelAlgebra>(
 )
     requires live { length live.now ≡ 256 }
     requires next { length next.old ≡ 256 }
-    requires within { All (Within 256) arrows.now }
+    requires within { AllByRecursion (Within 256) arrows.now }
     ensures { (q : ℕ) → Decides (slice_index_or next.new q false) ((slice_index_or next.old q false ≡ true) ⊎ ((p : ℕ) × (slice_index_or live.now p false ≡ true) × T (some_label (L.LabelAlgebra.holds labels.now) (leads p q) arrows.now value))) }
 {
     for x in arrows {
@@ -65,7 +65,7 @@ pub fn accepts<L: LabelAlgebra>(
     word: &[L::Value],
 ) -> bool
     requires states { length marks.now ≤ 256 }
-    requires within { All (Within (length marks.now)) arrows.now }
+    requires within { AllByRecursion (Within (length marks.now)) arrows.now }
     ensures { Decides result (Accepts (automaton (L.LabelAlgebra.holds labels.now) marks.now arrows.now) word.now) }
 {
     let mut live = initials(marks);

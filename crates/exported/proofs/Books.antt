@@ -1,6 +1,6 @@
 -- Books that were read from numbers, and written into them. Assumes nothing.
 use Rattle.std.proofs.Common.{◌≡◌, ℕ, ◌-◌, ◌<◌, ◌≤◌, Bool, false, ◌⊎◌, List, [], ◌∷◌, map, length, take, sym, refl, ap, ◌∙◌, subst, arith, length-take-le}
-use Rattle.std.specs.List.{AllByRecursion as All}
+use Rattle.std.specs.List.{AllByRecursion}
 use Rattle.std.proofs.ByRecursion.{All-map}
 use Rattle.std.proofs.lemmas.List.{length-map}
 use Rattle.automata.specs.declared.Arrow.{Arrow}
@@ -40,8 +40,8 @@ module _ (codes : List ℕ) (rules : List Rule) (marks : List Mark) (arrows : Li
   pub arrows_are : length drawn ≡ length rules
   arrows_are = ap length (sliced (length rules) arrows (map arrow_of rules) x) ∙ length-map rules arrow_of
 
-  pub within_are : All (EndsWithin (length codes)) rules → All (Within (length marked)) drawn
-  within_are within = subst (λ n. All (Within n) drawn) (sym states_are) (subst (All (Within (length codes))) (sym (sliced (length rules) arrows (map arrow_of rules) x)) (All-map (Within (length codes)) arrow_of rules within))
+  pub within_are : AllByRecursion (EndsWithin (length codes)) rules → AllByRecursion (Within (length marked)) drawn
+  within_are within = subst (λ n. AllByRecursion (Within n) drawn) (sym states_are) (subst (AllByRecursion (Within (length codes))) (sym (sliced (length rules) arrows (map arrow_of rules) x)) (All-map (Within (length codes)) arrow_of rules within))
 
   pub settled_are : (rows : List ℕ) (number : ℕ) → Keeps (automaton bit marked drawn) (pair rows) → Greatest (automaton bit marked drawn) (pair rows)
       → ((p q : ℕ) → (length marked ≤ p) ⊎ (length marked ≤ q) → pair rows p q ≡ false) → number ≡ pairs (pair rows) (length marked) → Settled codes rules rows number
@@ -52,7 +52,7 @@ module _ (codes : List ℕ) (rules : List Rule) (marks : List Mark) (arrows : Li
     count = count ∙ ap (pairs (pair rows)) states_are;
   }
 
-all_of : {X : Type 0} (G : X → Type 0) → ((x : X) → G x) → (xs : List X) → All G xs
+all_of : {X : Type 0} (G : X → Type 0) → ((x : X) → G x) → (xs : List X) → AllByRecursion G xs
 all_of G g [] = tt
 all_of G g (x ∷ xs) = (g x, all_of G g xs)
 
@@ -100,7 +100,7 @@ module _ (M : Automaton ℕ) (K : ℕ → ℕ → Bool) (states number : ℕ) (m
       λ F x. subst (λ y. F (map mark_of (take states codes)) (map arrow_of (take number rules)) y) (sym wx) (subst (λ y. F (map mark_of (take states codes)) y rows) ab (subst (λ y. F y (take number arrows) rows) mb x)) in
       record {
         book = move (λ y z r. ReducedBook bit M K y z (pair r)) f.book;
-        small = subst (All (λ c. c < 4)) (sym cs) (All-map (λ c. c < 4) code_of (take states marks) (all_of (λ m. code_of m < 4) code_small (take states marks)));
+        small = subst (AllByRecursion (λ c. c < 4)) (sym cs) (All-map (λ c. c < 4) code_of (take states marks) (all_of (λ m. code_of m < 4) code_small (take states marks)));
         rest = subst (λ r. (p q : ℕ) → (states ≤ p) ⊎ (states ≤ q) → pair r p q ≡ false) (sym wx) f.rest;
         states_fit = room-codes;
         arrows_fit = room-rules;

@@ -1,7 +1,7 @@
 -- Books over style marks as numbers, as another language hands them over, and what the two calls promise of them. Assumes
 -- nothing.
 use Rattle.std.specs.Prelude.{◌≡◌, ℕ, ◌<◌, ◌≤◌, Bool, false, ◌⊎◌, List, map, length, take, drop}
-use Rattle.std.specs.List.{AllByRecursion as All}
+use Rattle.std.specs.List.{AllByRecursion}
 use Rattle.automata.specs.declared.Arrow.{Arrow}
 use Rattle.automata.specs.declared.Mark.{Mark}
 use Rattle.automata.specs.declared.Mark.TheVariants.{Neither, Initial, Accepting, Both}
@@ -41,7 +41,7 @@ EndsWithin n x = (x.source < n) × (x.target < n)
 pub record Sound (codes : List ℕ) (rules : List Rule) (rows : List ℕ) : Type 0 where
   pub states : length codes ≤ 256
   pub few : length rules ≤ 8192
-  pub within : All (EndsWithin (length codes)) rules
+  pub within : AllByRecursion (EndsWithin (length codes)) rules
   pub square : length rows ≡ 1024
 
 -- the rows hold exactly the greatest simulation, and so many pairs
@@ -60,7 +60,7 @@ pub record Roomy (codes rows : List ℕ) : Type 0 where
 -- are the greatest simulation
 pub record Made (M : Automaton ℕ) (K : ℕ → ℕ → Bool) (codes : List ℕ) (rules : List Rule) (rows : List ℕ) (states arrows : ℕ) : Type 0 where
   pub book : ReducedBook bit M K (map mark_of (take states codes)) (map arrow_of (take arrows rules)) (pair rows)
-  pub small : All (λ c. c < 4) (take states codes)
+  pub small : AllByRecursion (λ c. c < 4) (take states codes)
   pub rest : (p q : ℕ) → (states ≤ p) ⊎ (states ≤ q) → pair rows p q ≡ false
   pub states_fit : states ≤ length codes
   pub arrows_fit : arrows ≤ length rules

@@ -6,7 +6,7 @@
 #![tactic(auto)]
 
 ghost use Rattle.std.specs.Prelude.{◌≡◌, ◌-◌, ◌^◌, ◌≤◌, true, false, map, length, take, Decides};
-ghost use Rattle.std.specs.List.{AllByRecursion as All};
+ghost use Rattle.std.specs.List.{AllByRecursion};
 ghost use Rattle.bits.specs.Matrix.{pair};
 ghost use Rattle.reduction.specs.Filled.{Crowded};
 ghost use Rattle.exported.specs.Foreign.{mark_of, code_of, arrow_of, rule_of, book_of, EndsWithin, Sound, Settled, Roomy, Made, Past};
@@ -71,7 +71,7 @@ fn read_arrows(rules: &[Rule], arrows: &mut [Arrow<u64>])
 
 // Whether both ends of each rule are below `states`.
 fn is_within_states(rules: &[Rule], states: usize) -> bool
-    ensures { Decides result (All (EndsWithin states) rules.now) }
+    ensures { Decides result (AllByRecursion (EndsWithin states) rules.now) }
 {
     for rule in rules {
         if rule.source as usize >= states || rule.target as usize >= states {

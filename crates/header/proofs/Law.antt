@@ -1,6 +1,6 @@
 -- A line that says cuts is the line of these cuts, and the line of a rising list says that list.
 use Rattle.std.proofs.Common.{◌≡◌, ℕ, ◌+◌, ◌<◌, ◌≤◌, Bool, true, false, cond, ltb, List, [], ◌∷◌, ◌++◌, map, length, get_or, Some, None, Ok, Err, codes, decimal, Option, Result, sym, refl, ap, ◌∙◌, subst, ap₂, arith, rules, MatchResult}
-use Rattle.std.specs.List.{flat_map, AllByRecursion as All}
+use Rattle.std.specs.List.{flat_map, AllByRecursion}
 use Rattle.std.specs.Str.{bytes_eq}
 use Rattle.std.proofs.ByRecursion.{All-append, All-from_get_or, All-map}
 use Rattle.std.proofs.lemmas.Slice.Eq.{bytes_eq-Decides}
@@ -89,7 +89,7 @@ text_from_cut_line line cuts e = by-fields (fields line) refl
 
 -- the line of a rising list
 module _ (cuts : List ℕ) (up : Rising cuts) where
-  decimals_free : (b : ℕ) → b < 48 → All (λ cut. Free b (decimal cut)) cuts
+  decimals_free : (b : ℕ) → b < 48 → AllByRecursion (λ cut. Free b (decimal cut)) cuts
   decimals_free b low = All-from_get_or (λ cut. Free b (decimal cut)) cuts 0 (λ i h. free_decimal b (get_or cuts i 0) low (omega (arith, up.high i h)))
 
   pub cut_line-rising : (line : List ℕ) → line ≡ cut_line_text cuts → cut_line line ≡ Ok cuts
@@ -107,7 +107,7 @@ module _ (cuts : List ℕ) (up : Rising cuts) where
   unfolding cut_fields_text
   cut_line_text_free = let word : Free 10 (codes "cuts") = search rules in All-append (λ x. x ≡ 10 → ⊥) (codes "cuts") (cut_fields_text cuts) word (by cuts (decimals_free 10 (omega arith)))
     where
-      by : (cs : List ℕ) → All (λ cut. Free 10 (decimal cut)) cs → Free 10 (cut_fields_text cs)
+      by : (cs : List ℕ) → AllByRecursion (λ cut. Free 10 (decimal cut)) cs → Free 10 (cut_fields_text cs)
       by [] h = tt
       by (cut ∷ cs) h = ((λ e. omega arith), All-append (λ x. x ≡ 10 → ⊥) (decimal cut) (cut_fields_text cs) h.0 (by cs h.1))
 

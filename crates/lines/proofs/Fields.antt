@@ -3,7 +3,7 @@ use Rattle.std.proofs.Common.{◌≡◌, ℕ, ◌+◌, ◌-◌, ◌<◌, ◌≤�
 use native.Mathlib.Nat.{sub-zero}
 use Rattle.std.proofs.lemmas.List.{append-nil, take-append-drop, drop_more, take_rest, at_drop_more, at_drop_all}
 use Rattle.std.proofs.lemmas.Bool.{ne_eqb, eqb-true, cond_both}
-use Rattle.std.specs.List.{flat_map, AllByRecursion as All}
+use Rattle.std.specs.List.{flat_map, AllByRecursion}
 use Rattle.lines.specs.Fields.{Free, Parted, above, before, split, fields, onto}
 
 pub fields_free : (a : List ℕ) → Free 44 a → fields a ≡ a ∷ []
@@ -17,7 +17,7 @@ fields_comma [] b h = refl
 fields_comma (x ∷ xs) b h = rw (ne_eqb x 44 h.0, fields_comma xs b h.1)
 
 -- fields that are joined by commas
-pub fields-joined : (a : List ℕ) (more : List (List ℕ)) → Free 44 a → All (Free 44) more → fields (a ++ flat_map (λ f. 44 ∷ f) more) ≡ a ∷ more
+pub fields-joined : (a : List ℕ) (more : List (List ℕ)) → Free 44 a → AllByRecursion (Free 44) more → fields (a ++ flat_map (λ f. 44 ∷ f) more) ≡ a ∷ more
 fields-joined a [] h all = ap fields (append-nil a) ∙ fields_free a h
 fields-joined a (f ∷ more) h all = fields_comma a (f ++ flat_map (λ f. 44 ∷ f) more) h ∙ ap (λ fs. a ∷ fs) (fields-joined f more all.0 all.1)
 

@@ -1,10 +1,10 @@
 -- The lines of a text, each of which a byte 10 ends, and the fields of a line, which commas (44) part.
 use Rattle.std.specs.Prelude.{◌≡◌, ℕ, cond, List, [], ◌∷◌, ◌++◌, Some, None, Option, ◌==◌, ◌≢◌}
-use Rattle.std.specs.List.{AllByRecursion as All}
+use Rattle.std.specs.List.{AllByRecursion}
 
 -- no byte is b
 abbrev pub Free : ℕ → List ℕ → Type 0
-Free b xs = All (λ x. x ≢ b) xs
+Free b xs = AllByRecursion (λ x. x ≢ b) xs
 
 -- front stands before the first b, and back behind it
 pub record Parted (b : ℕ) (whole front back : List ℕ) : Type 0 where

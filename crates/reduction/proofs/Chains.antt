@@ -1,6 +1,6 @@
 -- Chains of places, made place by place, and walks along them. Assumes nothing.
 use Rattle.std.proofs.Common.{◌≡◌, ℕ, ◌+◌, ◌-◌, ◌<◌, ◌≤◌, List, map, length, get_or, set, sym, ap, ◌∙◌, subst, inl, inr, arith, get_or-set_other, get_or-set_same}
-use Rattle.std.specs.List.{HoldsAt, AllByRecursion as All}
+use Rattle.std.specs.List.{HoldsAt, AllByRecursion}
 use Rattle.std.proofs.lemmas.List.{get_or-map}
 use Rattle.std.proofs.ByRecursion.{all_from_every}
 use Rattle.std.proofs.lemmas.Bool.{cases_eq, cases_lt}
@@ -70,7 +70,7 @@ module _ (keys : List ℕ) (m p : ℕ) (first next : List ℕ) (w : Chained keys
       }
 
 -- the walk is at its end
-pub walk_all : {X : Type 0} (f : X → ℕ) (xs : List X) (p : ℕ) (G : X → Type 0) (at : ℕ) → at ≡ 0 → Walk (map f xs) (length xs) p (HoldsAt G xs) at → All (λ a. f a ≡ p → G a) xs
+pub walk_all : {X : Type 0} (f : X → ℕ) (xs : List X) (p : ℕ) (G : X → Type 0) (at : ℕ) → at ≡ 0 → Walk (map f xs) (length xs) p (HoldsAt G xs) at → AllByRecursion (λ a. f a ≡ p → G a) xs
 walk_all f xs p G at z w = all_from_every (λ a. f a ≡ p → G a) xs
     (λ k d lo lt e. w.done k (omega arith) lt (get_or-map f xs k d 0 lt ∙ e) d)
 

@@ -1,7 +1,7 @@
 -- Labels joined over the arrows of a class. Assumes nothing.
 use Rattle.std.proofs.Common.{◌≡◌, ℕ, zero, suc, ◌-◌, ◌<◌, Bool, true, false, not, ◌&&◌, ◌||◌, T, eqb, List, [], ◌∷◌, length, get_or, sym, refl, ap, ◌∙◌, subst, ⊎_elim, le_of_suc-le-suc, not-suc-le-zero, arith, eqb→eq}
 use mathlib.Core.List.{Memᴰ}
-use Rattle.std.specs.List.{HoldsAt, AllByRecursion as All}
+use Rattle.std.specs.List.{HoldsAt, AllByRecursion}
 use Rattle.std.proofs.lemmas.List.Elements.{at_read}
 use Rattle.std.proofs.ByRecursion.{All-weaker}
 use Rattle.std.proofs.lemmas.Bool.{both_ways}
@@ -45,7 +45,7 @@ module _ {P V : Type 0} (h : P → V → Bool) (f : Arrow P → Bool) where
     taken_here : (x : Arrow P) → label ≡ x.label → Taken new x
     taken_here x e on v t = back (joins v) (or_r (h all v) (h label v) (subst (λ (l : P). T (h l v)) (sym e) t))
 
-  gathered : (xs : List (Arrow P)) (all : P) → All (Taken all) xs → Sound xs all → (v : V) → h all v ≡ some_label h f xs v
+  gathered : (xs : List (Arrow P)) (all : P) → AllByRecursion (Taken all) xs → Sound xs all → (v : V) → h all v ≡ some_label h f xs v
   gathered xs all each sound v = TSame (h all v) (some_label h f xs v) (sound v) (λ t. let r = label_found h f v xs t in all_mem (Taken all) r.0 xs each r.1 r.2 v r.3)
 
 module _ {P : Type 0} (K : ℕ → ℕ → Bool) (c d : ℕ) (x : Arrow P) where
@@ -86,7 +86,7 @@ module _ {P V : Type 0} (h : P → V → Bool) (K : ℕ → ℕ → Bool) (c d :
       )
 
   -- the meet of the one with the complement of the other, where s says what the symbols are
-  pub gathers_pruned : (marks : List Mark) → All (Within (length marks)) xs → (low high left rest : P) (at : ℕ) → at ≡ 0 → Gathers low high at
+  pub gathers_pruned : (marks : List Mark) → AllByRecursion (Within (length marks)) xs → (low high left rest : P) (at : ℕ) → at ≡ 0 → Gathers low high at
       → (v : V) (s : Bool) → (h low v ≡ true → s ≡ true) → h rest v ≡ (s && not (h high v)) → h left v ≡ (h low v && h rest v) → h left v ≡ (Pruned (automaton h marks xs) K).reads c v d
   gathers_pruned marks within low high left rest at z g v s proper complement meet =
       let k = gathers_all low high at z g v in

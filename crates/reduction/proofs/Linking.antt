@@ -1,6 +1,6 @@
 -- The links of one class, found along its chain of arrows. Assumes nothing.
 use Rattle.std.proofs.Common.{◌≡◌, ℕ, ◌-◌, ◌<◌, Bool, true, false, ◌||◌, List, length, get_or, set, replicate, Decides, sym, refl, ap, ◌∙◌, subst, inl, inr, arith, get_or-set_other, get_or-set_same}
-use Rattle.std.specs.List.{HoldsAt, AllByRecursion as All}
+use Rattle.std.specs.List.{HoldsAt, AllByRecursion}
 use Rattle.std.proofs.lemmas.List.{length-set, length-replicate}
 use Rattle.std.proofs.lemmas.Bool.{cases_eq, cases_Bool, both_ways}
 use Rattle.std.proofs.lemmas.Bool.Decides.{Decides-like}
@@ -38,7 +38,7 @@ module _ {P V : Type 0} (h : P → V → Bool) (marks : List Mark) (xs : List (A
     pub size : length seen ≡ 256
 
   -- a class that no arrow leads to is not linked
-  pub seeing_all : All (Within (length marks)) xs → (seen : List Bool) (links : List ℕ) (reached : List Bool) (at : ℕ) → at ≡ 0 → Seeing seen links reached at → (d : ℕ) → Decides (pair links c d) (Linked M c d)
+  pub seeing_all : AllByRecursion (Within (length marks)) xs → (seen : List Bool) (links : List ℕ) (reached : List Bool) (at : ℕ) → at ≡ 0 → Seeing seen links reached at → (d : ℕ) → Decides (pair links c d) (Linked M c d)
   seeing_all within seen links reached at z s d = elim (cases_Bool (get_or seen d false)) [
     | inl on ↦ s.told d on
     | inr off ↦ (λ t. absurd (both_ways _ (s.off d off) t), λ l. absurd (both_ways _ off (led l)))

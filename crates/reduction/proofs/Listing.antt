@@ -1,7 +1,7 @@
 -- Lists of classes and of arrows, one more at a time. Assumes nothing.
 use Rattle.std.proofs.Common.{◌≡◌, ℕ, zero, suc, ◌+◌, ◌-◌, ◌<◌, ◌≤◌, Bool, true, false, cond, T, List, [], ◌∷◌, ◌++◌, map, length, take, set, sym, refl, ap, ◌∙◌, subst, inl, inr, add-one, arith}
 use native.Mathlib.Nat.{sub-zero}
-use Rattle.std.specs.List.{AllByRecursion as All}
+use Rattle.std.specs.List.{AllByRecursion}
 use Rattle.std.proofs.ByRecursion.{All-push, All-weaker}
 use Rattle.std.proofs.lemmas.List.{append-nil, append_assoc, length-append, length-map, length_push, length-take-le, map_push, take_more_set}
 use Rattle.std.proofs.lemmas.Bool.{cases_eq}
@@ -50,8 +50,8 @@ module _ (f : ℕ → Bool) (n k : ℕ) (xs : List ℕ) (listed : take k xs ≡ 
   pub part_is : take (k - 0) xs ≡ rising f n
   part_is = ap (λ (m : ℕ). take m xs) (sub-zero k) ∙ listed
 
-  pub part_low : (m : ℕ) → n ≤ m → All (λ c. c < m) (take (k - 0) xs)
-  part_low m h = subst (All (λ c. c < m)) (sym part_is) (All-weaker (λ c. (c < n) × T (f c)) (λ c. c < m) (λ c p. omega (arith, p.0)) (rising f n) (rising_all f n))
+  pub part_low : (m : ℕ) → n ≤ m → AllByRecursion (λ c. c < m) (take (k - 0) xs)
+  part_low m h = subst (AllByRecursion (λ c. c < m)) (sym part_is) (All-weaker (λ c. (c < n) × T (f c)) (λ c. c < m) (λ c p. omega (arith, p.0)) (rising f n) (rising_all f n))
 
   pub part_length : (m : ℕ) → k ≤ n → n ≤ m → length xs ≡ m → length (take (k - 0) xs) ≡ k
   part_length m few h size = ap (λ (m : ℕ). length (take m xs)) (sub-zero k) ∙ length-take-le k xs (omega arith)

@@ -1,6 +1,6 @@
 -- Names, marks and the highest classes, found one by one. Assumes nothing.
 use Rattle.std.proofs.Common.{◌≡◌, ℕ, ◌+◌, ◌<◌, ◌≤◌, Bool, true, false, not, ◌&&◌, ◌||◌, T, eqb, List, [], ◌∷◌, map, length, get_or, set, replicate, sym, refl, ◌∙◌, inl, inr, add-one, arith, get_or-set_other, get_or-set_same}
-use Rattle.std.specs.List.{AllByRecursion as All}
+use Rattle.std.specs.List.{AllByRecursion}
 use Rattle.std.proofs.ByRecursion.{All-weaker}
 use Rattle.std.proofs.lemmas.Bool.{cases_eq, cases_order, eq-eqb, ne_eqb, and_from, and_right, both_ways}
 use Rattle.automata.specs.declared.Arrow.{Arrow}
@@ -19,7 +19,7 @@ to_T e = back e tt
 pub from_T : (b : Bool) → T b → b ≡ true
 from_T b t = TSame b true (λ _. tt) (λ _. t)
 
-pub map_agree : {X Y : Type 0} (f g : X → Y) (xs : List X) → All (λ x. f x ≡ g x) xs → map f xs ≡ map g xs
+pub map_agree : {X Y : Type 0} (f g : X → Y) (xs : List X) → AllByRecursion (λ x. f x ≡ g x) xs → map f xs ≡ map g xs
 map_agree f g [] e = refl
 map_agree f g (x ∷ xs) e = rw (e.0, map_agree f g xs e.1)
 
@@ -41,10 +41,10 @@ module _ (K : ℕ → ℕ → Bool) where
   named_low n names named few p h = omega (arith, named p h, name_le K p)
 
   -- the sources of arrows within, by their names
-  pub sources_low : {P : Type 0} (n : ℕ) (names : List ℕ) → Named K n names → n ≤ 256 → length names ≡ 256 → (xs : List (Arrow P)) → All (Within n) xs → All (λ x. (x.source < length names) × (get_or names x.source 0 < 256)) xs
+  pub sources_low : {P : Type 0} (n : ℕ) (names : List ℕ) → Named K n names → n ≤ 256 → length names ≡ 256 → (xs : List (Arrow P)) → AllByRecursion (Within n) xs → AllByRecursion (λ x. (x.source < length names) × (get_or names x.source 0 < 256)) xs
   sources_low n names named few size xs within = All-weaker (Within n) _ (λ x w. (omega (arith, w.0), named_low n names named few x.source w.0)) xs within
 
-  pub sources_are : {P : Type 0} (n : ℕ) (names : List ℕ) → Named K n names → (xs : List (Arrow P)) → All (Within n) xs → map (λ x. get_or names x.source 0) xs ≡ sources K xs
+  pub sources_are : {P : Type 0} (n : ℕ) (names : List ℕ) → Named K n names → (xs : List (Arrow P)) → AllByRecursion (Within n) xs → map (λ x. get_or names x.source 0) xs ≡ sources K xs
   sources_are n names named xs within = map_agree _ _ xs (All-weaker (Within n) _ (λ x w. named x.source w.0) xs within)
 
   -- no state yet

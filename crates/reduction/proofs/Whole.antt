@@ -1,6 +1,6 @@
 -- What was worked out and written is the reduction. Assumes nothing.
 use Rattle.std.proofs.Common.{◌≡◌, ℕ, ◌<◌, ◌≤◌, min, Bool, false, ◌&&◌, ◌||◌, eqb, ltb, List, [], ◌∷◌, map, length, get_or, take, Decides, sym, refl, ap, ◌∙◌, subst, inl, inr, arith}
-use Rattle.std.specs.List.{AllByRecursion as All}
+use Rattle.std.specs.List.{AllByRecursion}
 use Rattle.std.proofs.ByRecursion.{All-map, All-weaker}
 use Rattle.std.proofs.lemmas.List.{length-take-le}
 use Rattle.std.proofs.lemmas.Bool.{cases_eq, cases_order, eq-eqb, ne_eqb, lt-ltb, le-ltb, and_left, and_right}
@@ -23,7 +23,7 @@ use Rattle.reduction.specs.Filled.{Filled}
 use Rattle.reduction.proofs.Naming.{to_T, from_T, map_agree}
 use Rattle.reduction.proofs.Listing.{rising_agree}
 
-pub marks_agree : {V : Type 0} (M : Automaton V) (K : ℕ → ℕ → Bool) (initial accepting : List Bool) (classes : List ℕ) → ((c : ℕ) → c < M.size → get_or initial c false ≡ (Pruned M K).initial c) → ((c : ℕ) → c < M.size → get_or accepting c false ≡ (Pruned M K).accepting c) → All (λ c. c < M.size) classes
+pub marks_agree : {V : Type 0} (M : Automaton V) (K : ℕ → ℕ → Bool) (initial accepting : List Bool) (classes : List ℕ) → ((c : ℕ) → c < M.size → get_or initial c false ≡ (Pruned M K).initial c) → ((c : ℕ) → c < M.size → get_or accepting c false ≡ (Pruned M K).accepting c) → AllByRecursion (λ c. c < M.size) classes
     → map (λ c. mark (get_or initial c false) (get_or accepting c false)) classes ≡ map (λ c. mark ((Pruned M K).initial c) ((Pruned M K).accepting c)) classes
 marks_agree M K initial accepting classes x y low = map_agree _ _ classes (All-weaker (λ c. c < M.size) _ (λ c h. rw (x c h, y c h)) classes low)
 

@@ -1,6 +1,6 @@
 -- What is known of the target's arrows while they are written. Assumes nothing.
 use Rattle.std.specs.Prelude.{◌≡◌, ℕ, Bool, List, length, take, slice_index}
-use Rattle.std.specs.List.{AllByRecursion as All}
+use Rattle.std.specs.List.{AllByRecursion}
 use Rattle.automata.specs.declared.Arrow.{Arrow}
 use Rattle.automata.specs.Book.{ends}
 
@@ -15,4 +15,4 @@ reads_at reads staying i a j = reads (slice_index staying i) a (slice_index stay
 pub record Drawn {P V : Type 0} (holds : P → V → Bool) (reads : ℕ → V → ℕ → Bool) (listed : List (ℕ × ℕ)) (used : ℕ) (arrows : List (Arrow P)) : Type 0 where
   pub count : used ≡ length listed
   pub drawn : ends (take used arrows) ≡ listed
-  pub labelled : All (λ x. (a : V) → holds x.label a ≡ reads x.source a x.target) (take used arrows)
+  pub labelled : AllByRecursion (λ x. (a : V) → holds x.label a ≡ reads x.source a x.target) (take used arrows)

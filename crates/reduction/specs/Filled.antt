@@ -1,6 +1,6 @@
 -- What can be reduced, what the target then holds, and when it is refused. Assumes nothing.
 use Rattle.std.specs.Prelude.{◌≡◌, ℕ, ◌<◌, ◌≤◌, min, Bool, false, ◌⊎◌, List, length, take}
-use Rattle.std.specs.List.{AllByRecursion as All}
+use Rattle.std.specs.List.{AllByRecursion}
 use Rattle.automata.specs.declared.Arrow.{Arrow}
 use Rattle.automata.specs.declared.Mark.{Mark}
 use Rattle.automata.specs.Automata.{Automaton, Within}
@@ -12,7 +12,7 @@ use Rattle.bits.specs.Matrix.{pair}
 pub record Bounded {P : Type 0} (marks : List Mark) (arrows : List (Arrow P)) (rows : List ℕ) : Type 0 where
   pub states : length marks ≤ 256
   pub few : length arrows ≤ 8192
-  pub within : All (Within (length marks)) arrows
+  pub within : AllByRecursion (Within (length marks)) arrows
   pub square : length rows ≡ 1024
 
 -- the target's first marks and arrows and its kept pairs are the reduction of M by K, and no other pair is kept

@@ -4,7 +4,7 @@
 // pair of states, the chains of arrows one step for each arrow.
 
 ghost use Rattle.std.specs.Prelude.{◌≡◌, ℕ, ◌<◌, ◌≤◌, Bool, false, map, length, get_or, slice_index, slice_index_or};
-ghost use Rattle.std.specs.List.{AllByRecursion as All};
+ghost use Rattle.std.specs.List.{AllByRecursion};
 ghost use Rattle.automata.specs.Automata.{mark_is_start, mark_accepts};
 ghost use Rattle.automata.specs.declared.Mark.TheVariants.{Neither};
 ghost use Rattle.automata.specs.Reduction.{name, member, below, highest};
@@ -115,7 +115,7 @@ fn highest_of(rows: &[u64], passes: &[bool], n: usize) -> [bool; 256]
 
 // The arrows by the class of their source.
 fn chains_of<P: Copy>(names: &[usize], arrows: &[Arrow<P>]) -> Chains
-    requires { (length arrows.now ≤ 8192) × (All (λ x. (x.source < length names.now) × (slice_index names.now x.source < 256)) arrows.now) }
+    requires { (length arrows.now ≤ 8192) × (AllByRecursion (λ x. (x.source < length names.now) × (slice_index names.now x.source < 256)) arrows.now) }
     ensures { Chained (map (λ x. slice_index names.now x.source) arrows.now) (length arrows.now) result.first result.next }
 {
     let mut first = [0u16; 256];

@@ -1,7 +1,7 @@
 // The classes that stay, numbered by rising name, and how many links there are between them.
 
 ghost use Rattle.std.specs.Prelude.{◌≡◌, ◌<◌, ◌≤◌, false, length, take, slice_index, slice_index_or};
-ghost use Rattle.std.specs.List.{AllByRecursion as All};
+ghost use Rattle.std.specs.List.{AllByRecursion};
 ghost use Rattle.automata.specs.Below.{rising, table};
 ghost use Rattle.bits.specs.Matrix.{pair};
 ghost use Rattle.reduction.specs.Drawn.{linked_at};
@@ -23,7 +23,7 @@ pub fn number(stays: &[bool], n: usize, staying: &mut [usize]) -> usize
 }
 
 fn count_row(links: &[u64], staying: &[usize], c: usize) -> usize
-    requires { (length links.now ≡ 1024) × ((c < 256) × ((All (λ d. d < 256) staying.now) × (length staying.now ≤ 256))) }
+    requires { (length links.now ≡ 1024) × ((c < 256) × ((AllByRecursion (λ d. d < 256) staying.now) × (length staying.now ≤ 256))) }
     ensures { result ≡ length (rising (λ j. pair links.now c (slice_index staying.now j)) (length staying.now)) }
 {
     let mut found = 0;
@@ -37,7 +37,7 @@ fn count_row(links: &[u64], staying: &[usize], c: usize) -> usize
 
 // How many links there are between the classes that stay: so many arrows the target has.
 pub fn count_links(links: &[u64], staying: &[usize]) -> usize
-    requires { (length links.now ≡ 1024) × ((All (λ d. d < 256) staying.now) × (length staying.now ≤ 256)) }
+    requires { (length links.now ≡ 1024) × ((AllByRecursion (λ d. d < 256) staying.now) × (length staying.now ≤ 256)) }
     ensures { result ≡ length (table (linked_at (pair links.now) staying.now) (length staying.now)) }
 {
     let mut found = 0;

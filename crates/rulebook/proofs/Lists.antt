@@ -1,6 +1,6 @@
 -- First parts of lists, and what keeps the ends of arrows in range. Assumes nothing.
 use Rattle.std.proofs.Common.{◌≡◌, ℕ, zero, suc, ◌+◌, ◌-◌, ◌<◌, ◌≤◌, ◌≢◌, List, [], ◌∷◌, length, get_or, take, set, sym, refl, ap, ◌∙◌, ⊎_elim, suc-le-suc, zero-le, arith}
-use Rattle.std.specs.List.{remove, AllByRecursion as All}
+use Rattle.std.specs.List.{remove, AllByRecursion}
 use Rattle.std.proofs.lemmas.List.{get_or-set_same, get_or-set_other, get_or-take, length-set, length-take-le}
 use Rattle.std.proofs.lemmas.List.Edits.{get_or-remove_below, get_or-remove_above}
 use Rattle.std.proofs.lemmas.Bool.{cases_eq, cases_lt}
@@ -40,12 +40,12 @@ module _ {P : Type 0} where
             (cases_lt k p)),
       )
 
-  within_all : (n : ℕ) (xs : List (Arrow P)) → ((k : ℕ) (d : Arrow P) → k < length xs → Within n (get_or xs k d)) → All (Within n) xs
+  within_all : (n : ℕ) (xs : List (Arrow P)) → ((k : ℕ) (d : Arrow P) → k < length xs → Within n (get_or xs k d)) → AllByRecursion (Within n) xs
   within_all n [] f = tt
   within_all n (x ∷ xs) f = (f 0 x (suc-le-suc zero-le), within_all n xs (λ k d h. f (suc k) d (suc-le-suc h)))
 
   -- as the engine asks it
-  pub ends_all : (n m : ℕ) (xs : List (Arrow P)) → m ≤ length xs → EndsIn n m xs → All (Within n) (take m xs)
+  pub ends_all : (n m : ℕ) (xs : List (Arrow P)) → m ≤ length xs → EndsIn n m xs → AllByRecursion (Within n) (take m xs)
   ends_all n m xs le e = within_all n (take m xs) (λ k d h. let l = length-take-le m xs le in let h' : k < m = omega arith in rw (get_or-take m xs k d h') (e k d h'))
 
   -- equal part by part

@@ -1,7 +1,7 @@
 -- A book that holds a reduction: its arrows end at its states, and its kept pairs are a preorder. Assumes nothing.
 use Rattle.std.proofs.Common.{◌≡◌, ℕ, ◌<◌, ◌≤◌, Bool, T, eqb, ◌⊎◌, List, [], ◌∷◌, length, take, sym, refl, ap, ◌∙◌, subst, inl, inr, arith, eqb→eq}
 use lib.Dec.{eqb_refl}
-use Rattle.std.specs.List.{AllByRecursion as All}
+use Rattle.std.specs.List.{AllByRecursion}
 use Rattle.std.proofs.lemmas.List.{length-map, length-take-le, get_or-take}
 use Rattle.std.proofs.ByRecursion.{All-weaker, All-get_or}
 use Rattle.std.proofs.lemmas.Bool.{cases_lt, cases_eq}
@@ -29,7 +29,7 @@ use Rattle.rulebook.specs.Reducing.{ReducedInto}
 use Rattle.rulebook.proofs.Kept.{ordered}
 
 -- what holds of the ends holds of the arrows
-all_ends : {P : Type 0} (n : ℕ) (arrows : List (Arrow P)) → All (λ x. (x.0 < n) × (x.1 < n)) (ends arrows) → All (Within n) arrows
+all_ends : {P : Type 0} (n : ℕ) (arrows : List (Arrow P)) → AllByRecursion (λ x. (x.0 < n) × (x.1 < n)) (ends arrows) → AllByRecursion (Within n) arrows
 all_ends n [] a = tt
 all_ends n (x ∷ xs) a = (a.0, all_ends n xs a.1)
 
@@ -37,7 +37,7 @@ module _ {P V : Type 0} (holds : P → V → Bool) (M : Automaton V) (K : ℕ �
   size_is : length marks ≡ length (staying M K b.linked)
   size_is = ap length b.marked ∙ length-map (staying M K b.linked) _
 
-  pub reduced_within : All (Within (length marks)) arrows
+  pub reduced_within : AllByRecursion (Within (length marks)) arrows
   reduced_within = rw size_is (all_ends _ arrows (rw b.drawn (All-weaker _ _ (λ x k. (k.0, k.1)) _ (rows_all _ _ _))))
 
   named : (i : ℕ) → i < length marks → class M K b.linked i < M.size

@@ -1,6 +1,6 @@
 -- What a book lends to the engine is of the size that the engine asks. Assumes nothing.
 use Rattle.std.proofs.Common.{◌≡◌, ◌≤◌, List, length, ap, ◌∙◌, arith}
-use Rattle.std.specs.List.{AllByRecursion as All}
+use Rattle.std.specs.List.{AllByRecursion}
 use Rattle.std.proofs.lemmas.List.{length-take-le}
 use Rattle.automata.specs.declared.Arrow.{Arrow}
 use Rattle.automata.specs.declared.Mark.{Mark}
@@ -19,7 +19,7 @@ module _ {P : Type 0} (b : Book P) where
   pub record Sized (marks : List Mark) (arrows : List (Arrow P)) : Type 0 where
     pub states : length marks ≤ 256
     pub few : length arrows ≤ 8192
-    pub within : All (Within (length marks)) arrows
+    pub within : AllByRecursion (Within (length marks)) arrows
 
   pub sized : (marks : List Mark) (arrows : List (Arrow P)) → marks ≡ (view b).marks → arrows ≡ (view b).arrows → Sized marks arrows
   sized marks arrows m a =

@@ -1,7 +1,7 @@
 -- The fields of a line are read as what the line says.
 use Rattle.std.proofs.Common.{◌≡◌, ℕ, ◌+◌, ◌^◌, ◌<◌, ◌≤◌, true, cond, ◌&&◌, leb, List, [], ◌∷◌, ◌++◌, map, length, get_or, Some, None, Ok, Err, codes, decimal, Option, Result, sym, refl, ap, ◌∙◌, ap₂, arith, length-append, rules}
 use Rattle.std.specs.Option.{option_map, ok_or}
-use Rattle.std.specs.List.{flat_map, AllByRecursion as All}
+use Rattle.std.specs.List.{flat_map, AllByRecursion}
 use Rattle.std.proofs.ByRecursion.{All-append, All-weaker}
 use Rattle.std.proofs.lemmas.List.{append-nil, get_or_at}
 use Rattle.std.proofs.lemmas.Bool.{le-leb, lt-leb}
@@ -56,7 +56,7 @@ unfolding symbol_in
 symbol_back (Left n) low = ap (option_map Left) (number_in_decimal 255 n low (omega arith))
 symbol_back (Right n) low = ap (option_map Right) (number_in_decimal 4294967295 n low (omega arith))
 
-symbols_back : (at : Place) (w : List Symbol) → All FitsSymbol w → symbols_say at (map symbol_text w) ≡ Ok w
+symbols_back : (at : Place) (w : List Symbol) → AllByRecursion FitsSymbol w → symbols_say at (map symbol_text w) ≡ Ok w
 unfolding symbols_say
 symbols_back at [] fit = refl
 symbols_back at (s ∷ w) fit =
@@ -77,11 +77,11 @@ plain-mark mark.Initial = search rules
 plain-mark mark.Accepting = search rules
 plain-mark mark.Both = search rules
 
-plain_ticket : (t : Option ℕ) → FitsTicket t → All Plain (ticket_fields t)
+plain_ticket : (t : Option ℕ) → FitsTicket t → AllByRecursion Plain (ticket_fields t)
 plain_ticket None fit = tt
 plain_ticket (Some n) fit = (plain_decimal n (omega arith), tt)
 
-plain_symbols : (w : List Symbol) → All FitsSymbol w → All Plain (map symbol_text w)
+plain_symbols : (w : List Symbol) → AllByRecursion FitsSymbol w → AllByRecursion Plain (map symbol_text w)
 plain_symbols [] fit = tt
 plain_symbols (Left n ∷ w) fit = ((((λ e. omega arith), (λ e. omega arith)), plain_decimal n (omega (arith, fit.0))), plain_symbols w fit.1)
 plain_symbols (Right n ∷ w) fit = ((((λ e. omega arith), (λ e. omega arith)), plain_decimal n (omega (arith, fit.0))), plain_symbols w fit.1)
@@ -111,15 +111,15 @@ free_44 bs h = All-weaker (λ b. (b ≡ 44 → ⊥) × (b ≡ 10 → ⊥)) (λ b
 free_10 : (bs : List ℕ) → Plain bs → Free 10 bs
 free_10 bs h = All-weaker (λ b. (b ≡ 44 → ⊥) × (b ≡ 10 → ⊥)) (λ b. b ≡ 10 → ⊥) (λ b k. k.1) bs h
 
-pub fields-by_commas : (fs : List (List ℕ)) → 1 ≤ length fs → All Plain fs → fields (by_commas fs) ≡ fs
+pub fields-by_commas : (fs : List (List ℕ)) → 1 ≤ length fs → AllByRecursion Plain fs → fields (by_commas fs) ≡ fs
 fields-by_commas [] some all = absurd (omega arith)
 fields-by_commas (f ∷ fs) some all = fields-joined f fs (free_44 f all.0) (All-weaker Plain (Free 44) free_44 fs all.1)
 
-pub free_by_commas : (fs : List (List ℕ)) → All Plain fs → Free 10 (by_commas fs)
+pub free_by_commas : (fs : List (List ℕ)) → AllByRecursion Plain fs → Free 10 (by_commas fs)
 free_by_commas [] all = tt
 free_by_commas (f ∷ fs) all = All-append (λ b. b ≡ 10 → ⊥) f (flat_map (λ g. 44 ∷ g) fs) (free_10 f all.0) (rest fs all.1)
   where
-    rest : (gs : List (List ℕ)) → All Plain gs → Free 10 (flat_map (λ g. 44 ∷ g) gs)
+    rest : (gs : List (List ℕ)) → AllByRecursion Plain gs → Free 10 (flat_map (λ g. 44 ∷ g) gs)
     rest [] h = tt
     rest (g ∷ gs) h = ((λ e. omega arith), All-append (λ b. b ≡ 10 → ⊥) g (flat_map (λ k. 44 ∷ k) gs) (free_10 g h.0) (rest gs h.1))
 
@@ -201,7 +201,7 @@ module _ {P : Type 0} {Same : P → P → Type 0} (text : P → List ℕ) (reads
     pub end_back : line_says reads at (codes "end" ∷ []) ≡ Ok None
     end_back = counted (codes "end" ∷ []) kind.End (Ok None) refl refl refl
 
-  plain_call : (c : Stated P) → FitsCall c → All Plain (call_fields text c)
+  plain_call : (c : Stated P) → FitsCall c → AllByRecursion Plain (call_fields text c)
   plain_call opens fit = (search rules, tt)
   plain_call (adds m t) fit = (search rules, (plain-mark m, plain_ticket t fit))
   plain_call (marks s m t) fit = (search rules, (plain_decimal s (omega arith), (plain-mark m, plain_ticket t fit.1)))
@@ -212,7 +212,7 @@ module _ {P : Type 0} {Same : P → P → Type 0} (text : P → List ℕ) (reads
   plain_call copies fit = (search rules, tt)
   plain_call reduces fit = (search rules, tt)
 
-  pub plain_line : (x : Line P) → Fits x → All Plain (line_fields text x)
+  pub plain_line : (x : Line P) → Fits x → AllByRecursion Plain (line_fields text x)
   plain_line (calls c) fit = plain_call c fit
   plain_line (tests w) fit = (search rules, plain_symbols w fit)
 

@@ -1,7 +1,7 @@
 -- A line that is accepted is made of the fields of what it says.
 use Rattle.std.proofs.Common.{◌≡◌, ℕ, ◌+◌, ◌^◌, ◌<◌, ◌≤◌, Bool, true, false, cond, eqb, leb, List, [], ◌∷◌, ◌++◌, map, length, get_or, drop, Some, None, Ok, Err, codes, decimal, Option, Result, sym, refl, ap, ◌∙◌, subst, arith}
 use Rattle.std.specs.Option.{option_map, ok_or}
-use Rattle.std.specs.List.{AllByRecursion as All}
+use Rattle.std.specs.List.{AllByRecursion}
 use Rattle.std.specs.Str.{bytes_eq}
 use Rattle.std.proofs.lemmas.Slice.Eq.{bytes_eq-Decides}
 use Rattle.std.proofs.lemmas.List.{drop_all, drop_more}
@@ -102,16 +102,16 @@ symbol_exact (c ∷ digits) s e = by-mark (eqb c 109) refl e
     by-mark true t f = left (number_in 255 digits) (eqb-true c 109 t) refl f
     by-mark false t f = by_point (eqb c 99) refl f
 
-symbols_exact : (at : Place) (fs : List (List ℕ)) (w : List Symbol) → symbols_say at fs ≡ Ok w → (fs ≡ map symbol_text w) × All FitsSymbol w
+symbols_exact : (at : Place) (fs : List (List ℕ)) (w : List Symbol) → symbols_say at fs ≡ Ok w → (fs ≡ map symbol_text w) × AllByRecursion FitsSymbol w
 unfolding symbols_say
-symbols_exact at [] w e = let same : [] ≡ w = cc in subst (λ u. ([] ≡ map symbol_text u) × All FitsSymbol u) same (refl, tt)
+symbols_exact at [] w e = let same : [] ≡ w = cc in subst (λ u. ([] ≡ map symbol_text u) × AllByRecursion FitsSymbol u) same (refl, tt)
 symbols_exact at (f ∷ fs) w e =
     let one = went (ok_or (symbol_in f) (fault.Number at)) _ w e in
     let rest = made_of (symbols_say (further at (length f + 1)) fs) (λ ss. one.first ∷ ss) w one.so in
     let here = symbol_exact f one.first (some_from_ok_or (symbol_in f) (fault.Number at) one.first one.was) in
     let more = symbols_exact (further at (length f + 1)) fs rest.part rest.was in
     let whole : f ∷ fs ≡ symbol_text one.first ∷ map symbol_text rest.part = cc (here.0, more.0) in
-    subst (λ u. (f ∷ fs ≡ map symbol_text u) × All FitsSymbol u) rest.so (whole, (here.1, more.1))
+    subst (λ u. (f ∷ fs ≡ map symbol_text u) × AllByRecursion FitsSymbol u) rest.so (whole, (here.1, more.1))
 
 -- the word of a kind
 abbrev pub verb_text : Verb → List ℕ

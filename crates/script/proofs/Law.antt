@@ -1,6 +1,6 @@
 -- A text that is accepted is the text of the lines that it says, and the text of lines is accepted.
 use Rattle.std.proofs.Common.{◌≡◌, ℕ, List, [], ◌∷◌, ◌++◌, length, drop, Some, None, Ok, Err, codes, Option, Result, sym, refl, ap, ◌∙◌, subst, ap₂, arith, rules}
-use Rattle.std.specs.List.{flat_map, AllByRecursion as All}
+use Rattle.std.specs.List.{flat_map, AllByRecursion}
 use Rattle.std.proofs.lemmas.List.{append_assoc, append-nil}
 use Rattle.lines.specs.Fields.{Free, Parted, fields, split}
 use Rattle.lines.specs.declared.Fault.{Fault}
@@ -36,7 +36,7 @@ lines_text_more text x xs =
 module _ {P : Type 0} (text : P → List ℕ) (reads : List ℕ → Option (Reading P))
     (exact : (bytes : List ℕ) (got : Reading P) → reads bytes ≡ Some got → (got.len ≡ length (text got.predicate)) × (bytes ≡ text got.predicate ++ drop got.len bytes)) where
   lines_exact : (at : Place) (ls : List (List ℕ)) (rest : List ℕ) (all : List (Line P)) → lines_say reads at ls rest ≡ Ok all
-      → (flat_map (λ l. l ++ (10 ∷ [])) ls ++ rest ≡ lines_text text all) × All Fits all
+      → (flat_map (λ l. l ++ (10 ∷ [])) ls ++ rest ≡ lines_text text all) × AllByRecursion Fits all
   unfolding lines_say lines_text
   lines_exact at [] rest all e = failed _ all _ refl e
   lines_exact at (line ∷ ls) rest all e =
@@ -47,10 +47,10 @@ module _ {P : Type 0} (text : P → List ℕ) (reads : List ℕ → Option (Read
       back = flat_map (λ l. l ++ (10 ∷ [])) ls
 
       closed : (gs : List (List ℕ)) (r : List ℕ) → line ≡ codes "end" → closes (next at line) gs r ≡ Ok all
-          → ((((line ++ (10 ∷ [])) ++ flat_map (λ l. l ++ (10 ∷ [])) gs) ++ r) ≡ lines_text text all) × All Fits all
+          → ((((line ++ (10 ∷ [])) ++ flat_map (λ l. l ++ (10 ∷ [])) gs) ++ r) ≡ lines_text text all) × AllByRecursion Fits all
       closed [] [] is f =
           let same : [] ≡ all = cc in
-          subst (λ xs. ((((line ++ (10 ∷ [])) ++ []) ++ []) ≡ lines_text text xs) × All Fits xs) same
+          subst (λ xs. ((((line ++ (10 ∷ [])) ++ []) ++ []) ≡ lines_text text xs) × AllByRecursion Fits xs) same
           (append-nil ((line ++ (10 ∷ [])) ++ []) ∙ append-nil (line ++ (10 ∷ [])) ∙ ap (λ l. l ++ (10 ∷ [])) is, tt)
       closed [] (b ∷ r) is f = failed _ all _ refl f
       closed (g ∷ gs) r is f = failed _ all _ refl f
@@ -58,8 +58,8 @@ module _ {P : Type 0} (text : P → List ℕ) (reads : List ℕ → Option (Read
       by : (said : Option (Line P)) → Says text reads exact at (fields line) said → ◌≡◌ {A = Result (List (Line P)) Fault} (elim said [
         | Some x ↦ over (λ xs. x ∷ xs) (lines_say reads (next at line) ls rest)
         | None ↦ closes (next at line) ls rest
-      ]) (Ok all) → ((xs : List (Line P)) → lines_say reads (next at line) ls rest ≡ Ok xs → (back ++ rest ≡ lines_text text xs) × All Fits xs)
-          → ((((line ++ (10 ∷ [])) ++ back) ++ rest) ≡ lines_text text all) × All Fits all
+      ]) (Ok all) → ((xs : List (Line P)) → lines_say reads (next at line) ls rest ≡ Ok xs → (back ++ rest ≡ lines_text text xs) × AllByRecursion Fits xs)
+          → ((((line ++ (10 ∷ [])) ++ back) ++ rest) ≡ lines_text text all) × AllByRecursion Fits all
       by None is f more = closed ls rest (line_from_fields line (codes "end" ∷ []) is) f
       by (Some x) is f more =
           let made = made_of (lines_say reads (next at line) ls rest) (λ xs. x ∷ xs) all f in
@@ -67,7 +67,7 @@ module _ {P : Type 0} (text : P → List ℕ) (reads : List ℕ → Option (Read
           let here = line_from_fields line (line_fields text x) is.0 in
           let whole : ((line ++ (10 ∷ [])) ++ back) ++ rest ≡ lines_text text (x ∷ made.part) =
           append_assoc (line ++ (10 ∷ [])) back rest ∙ append_assoc line (10 ∷ []) (back ++ rest) ∙ ap₂ (λ l t. l ++ (10 ∷ t)) here others.0 ∙ sym (lines_text_more text x made.part) in
-          subst (λ xs. ((((line ++ (10 ∷ [])) ++ back) ++ rest) ≡ lines_text text xs) × All Fits xs) made.so (whole, (is.1, others.1))
+          subst (λ xs. ((((line ++ (10 ∷ [])) ++ back) ++ rest) ≡ lines_text text xs) × AllByRecursion Fits xs) made.so (whole, (is.1, others.1))
 
   -- a text that is accepted
   pub tells : (bytes : List ℕ) (at : Place) (t : Told P) → over (told [] []) (text_says reads at bytes) ≡ Ok t → Tells text bytes t
@@ -86,7 +86,7 @@ module _ {P : Type 0} (text : P → List ℕ) (reads : List ℕ → Option (Read
 module _ {P : Type 0} {Same : P → P → Type 0} (text : P → List ℕ) (reads : List ℕ → Option (Reading P))
     (back : (p : P) (rest : List ℕ) → (q : P) × (reads (text p ++ rest) ≡ Some (record { predicate = q; len = length (text p) })) × Same q p)
     (plain : (p : P) → Plain (text p)) where
-  lines_back : (at : Place) (xs : List (Line P)) → All Fits xs → (all : List (Line P)) × (text_says reads at (lines_text text xs) ≡ Ok all)
+  lines_back : (at : Place) (xs : List (Line P)) → AllByRecursion Fits xs → (all : List (Line P)) × (text_says reads at (lines_text text xs) ≡ Ok all)
   unfolding split lines_text
   lines_back at [] fit =
       let no-comma : Free 44 (codes "end") = search rules in

@@ -1,7 +1,7 @@
 -- What the lines of a script say, and their texts.
 use Rattle.std.specs.Prelude.{ℕ, ◌+◌, ◌≤◌, List, [], ◌∷◌, ◌++◌, map, length, Some, None, codes, decimal, Option}
 use Rattle.std.specs.Option.{unwrap_or}
-use Rattle.std.specs.List.{flat_map, AllByRecursion as All}
+use Rattle.std.specs.List.{flat_map, AllByRecursion}
 use Rattle.automata.specs.declared.Mark.{Mark}
 use Rattle.automata.specs.declared.Mark.TheVariants as mark
 use Rattle.labels.specs.declared.sum.Either.{Either}
@@ -52,7 +52,7 @@ FitsSymbol (Right n) = n ≤ 4294967295
 
 abbrev pub Fits : {P : Type 0} → Line P → Type 0
 Fits (calls c) = FitsCall c
-Fits (tests w) = All FitsSymbol w
+Fits (tests w) = AllByRecursion FitsSymbol w
 
 -- the fields of a line
 abbrev pub mark_text : Mark → List ℕ

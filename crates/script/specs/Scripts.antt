@@ -1,6 +1,6 @@
 -- What a whole text says, or its first fault.
 use Rattle.std.specs.Prelude.{◌≡◌, ℕ, ◌+◌, List, [], ◌∷◌, ◌++◌, length, Some, None, Ok, Err, Option, Result, ◌≢◌}
-use Rattle.std.specs.List.{AllByRecursion as All}
+use Rattle.std.specs.List.{AllByRecursion}
 use Rattle.labels.specs.Segments.{Rising}
 use Rattle.labels.specs.declared.sum.Both.{Both}
 use Rattle.lines.specs.Fields.{fields, split}
@@ -82,14 +82,14 @@ pub record LineRead {P : Type 0} (says : Result (Option (Line P)) Fault) (before
 -- bytes that are the text of lines, and the calls and symbols of these
 pub record Tells {P : Type 0} (text : P → List ℕ) (bytes : List ℕ) (t : Told P) : Type 0 where
   pub lines : List (Line P)
-  pub fits : All Fits lines
+  pub fits : AllByRecursion Fits lines
   pub is : bytes ≡ lines_text text lines
   pub calls : t.calls ≡ calls_of 0 lines
   pub symbols : t.symbols ≡ symbols_of lines
 
 -- bytes that are the text of no lines
 abbrev pub NoLines : {P : Type 0} → (P → List ℕ) → List ℕ → Type 0
-NoLines {P = P} text bytes = (lines : List (Line P)) → All Fits lines → bytes ≢ lines_text text lines
+NoLines {P = P} text bytes = (lines : List (Line P)) → AllByRecursion Fits lines → bytes ≢ lines_text text lines
 
 -- the text of a script
 abbrev pub script_text : List ℕ → List (Line (Both ℕ ℕ)) → List ℕ
@@ -98,11 +98,11 @@ script_text cuts lines = cut_line_text cuts ++ (10 ∷ lines_text (styled_text c
 -- a text of a script, and its calls and symbols
 pub record IsScript (text cuts : List ℕ) (t : Told (Both ℕ ℕ)) : Type 0 where
   pub lines : List (Line (Both ℕ ℕ))
-  pub fits : All Fits lines
+  pub fits : AllByRecursion Fits lines
   pub is : text ≡ script_text cuts lines
   pub calls : t.calls ≡ calls_of 0 lines
   pub symbols : t.symbols ≡ symbols_of lines
 
 -- a text that no script has
 abbrev pub NoScript : List ℕ → Type 0
-NoScript text = (cuts : List ℕ) (lines : List (Line (Both ℕ ℕ))) → Rising cuts → All Fits lines → text ≢ script_text cuts lines
+NoScript text = (cuts : List ℕ) (lines : List (Line (Both ℕ ℕ))) → Rising cuts → AllByRecursion Fits lines → text ≢ script_text cuts lines

@@ -1,6 +1,6 @@
 -- What it is to write a text into a buffer, and to read one from the front of some bytes.
 use Rattle.std.specs.Prelude.{◌≡◌, ℕ, ◌+◌, ◌<◌, cond, List, ◌++◌, length, drop, Some, None, Option, ◌==◌, ◌≢◌, nat_lt}
-use Rattle.std.specs.List.{AllByRecursion as All}
+use Rattle.std.specs.List.{AllByRecursion}
 use Rattle.labels.specs.declared.sum.Both.{Both}
 use Rattle.written.specs.declared.Reading.{Reading}
 
@@ -11,7 +11,7 @@ Wrote was is text (Some n) = (n ≡ length text) × (is ≡ text ++ drop n was)
 
 -- no byte is a comma or byte 10
 abbrev pub Plain : List ℕ → Type 0
-Plain text = All (λ b. (b ≢ 44) × (b ≢ 10)) text
+Plain text = AllByRecursion (λ b. (b ≢ 44) × (b ≢ 10)) text
 
 -- a word of 16 digits, of which only numbers below a limit are read
 abbrev pub reads_word : ℕ → Option ℕ → Option (Reading ℕ)

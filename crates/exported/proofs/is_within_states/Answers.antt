@@ -2,7 +2,7 @@ use Rattle.std.proofs.Common.{refl, subst, arith}
 use Rattle.std.proofs.ByRecursion.{All-get_or, All-more}
 use Rattle.std.proofs.lemmas.List.{take_all}
 use Rattle.std.proofs.lemmas.Bool.{false≢true}
-use Rattle.std.specs.List.{AllByRecursion as All}
+use Rattle.std.specs.List.{AllByRecursion}
 use Rattle.exported.specs.Foreign.{EndsWithin}
 use Rattle.exported.proofs.is_within_states.Goals as goal
 use Rattle.exported.proofs.is_within_states.Goals.{then-rule-states-via-then-rule-states, then-rule-states-via-else-rule-states+then-rule-states-2}
@@ -25,4 +25,4 @@ loop-rule-preserved c =
 
 pub returns : goal.returns
 returns c =
-    (λ _. subst (All (EndsWithin c.args.states)) (take_all c.loop-rule.rule-index c.args.rules.now c.loop-rule-test.false) c.loop-rule.invariant, λ _. refl)
+    (λ _. subst (AllByRecursion (EndsWithin c.args.states)) (take_all c.loop-rule.rule-index c.args.rules.now c.loop-rule-test.false) c.loop-rule.invariant, λ _. refl)
