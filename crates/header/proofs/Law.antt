@@ -17,7 +17,7 @@ use Rattle.lines.specs.declared.Fault.{Fault}
 use Rattle.lines.specs.declared.Fault.TheVariants.{Word, Count}
 use Rattle.lines.proofs.Fields.{fields-joined, fields_some, line_joined}
 use Rattle.lines.proofs.Numbers.{free_decimal, number_in_cases, number_in_decimal}
-use Rattle.header.specs.CutLine.{cut_fields_text, cut_line_text, in-first, fault_of_shape, cut_fields, cut_line}
+use Rattle.header.specs.CutLine.{cut_fields_text, cut_line_text, in_first, fault_of_shape, cut_fields, cut_line}
 use Rattle.header.proofs.Reading.{cut_fields_more, cut_fields_number, cut_fields_order, cut_line_shape}
 
 -- no answer is both
@@ -68,7 +68,7 @@ cut_fields_decimals cuts (cut ∷ more) at r =
 word_from_shape : (word : List ℕ) (count : ℕ) → fault_of_shape word count ≡ None → word ≡ codes "cuts"
 word_from_shape word count e = by (bytes_eq word (codes "cuts")) refl e
   where
-    by : (t : Bool) → bytes_eq word (codes "cuts") ≡ t → cond t (cond (ltb 64 count) (Some (Count (in-first 0))) None) (Some (Word (in-first 0))) ≡ None → word ≡ codes "cuts"
+    by : (t : Bool) → bytes_eq word (codes "cuts") ≡ t → cond t (cond (ltb 64 count) (Some (Count (in_first 0))) None) (Some (Word (in_first 0))) ≡ None → word ≡ codes "cuts"
     by true t f = (bytes_eq-Decides word (codes "cuts")).0 t
     by false t f = let z : ◌≡◌ {A = ℕ} 0 1 = cc in absurd (omega arith)
 
@@ -100,7 +100,7 @@ module _ (cuts : List ℕ) (up : Rising cuts) where
       ap fields (is ∙ ap (λ t. codes "cuts" ++ t) (cut_fields_text-joined cuts))
       ∙ fields-joined (codes "cuts") more word (All-map (Free 44) decimal cuts (decimals_free 44 (omega arith))) in
       let few : length (fields line) ≤ 64 = omega (arith, ap length parts, length-map cuts decimal, up.few) in
-      cut_line_shape line (codes "cuts") more parts _ None refl (sym (ap (λ t. cond t (Some (Count (in-first 0))) None) (le-ltb 64 (length (fields line)) few)))
+      cut_line_shape line (codes "cuts") more parts _ None refl (sym (ap (λ t. cond t (Some (Count (in_first 0))) None) (le-ltb 64 (length (fields line)) few)))
       ∙ cut_fields_decimals [] cuts 5 up
 
   pub cut_line_text_free : Free 10 (cut_line_text cuts)

@@ -6,7 +6,7 @@ use Rattle.lines.specs.Fields.{fields, others}
 use Rattle.lines.specs.Numbers.{number_in}
 use Rattle.lines.specs.declared.Fault.{Fault}
 use Rattle.lines.specs.declared.Fault.TheVariants.{Number}
-use Rattle.header.specs.CutLine.{in-first, fault_of_shape, cut_fields, cut_line_of, cut_line}
+use Rattle.header.specs.CutLine.{in_first, fault_of_shape, cut_fields, cut_line_of, cut_line}
 
 -- the bytes that are left to read, each field with its comma
 abbrev pub left_size : Option (List ℕ) → ℕ
@@ -16,24 +16,24 @@ left_size (Some bytes) = length bytes + 1
 module _ (cuts : List ℕ) (at : ℕ) (field : List ℕ) (more : List (List ℕ)) where
   by_number : Option ℕ → Result (List ℕ) Fault
   by_number o = elim o [
-    | None ↦ Err (Number (in-first at))
-    | Some cut ↦ cond (goes_on cuts cut) (cut_fields (cuts ++ (cut ∷ [])) (at + length field + 1) more) (Err (Number (in-first at)))
+    | None ↦ Err (Number (in_first at))
+    | Some cut ↦ cond (goes_on cuts cut) (cut_fields (cuts ++ (cut ∷ [])) (at + length field + 1) more) (Err (Number (in_first at)))
   ]
 
   pub cut_fields_more : (cut : ℕ) → number_in 1114111 field ≡ Some cut → goes_on cuts cut ≡ true
       → cut_fields cuts at (field ∷ more) ≡ cut_fields (cuts ++ (cut ∷ [])) (at + length field + 1) more
   unfolding cut_fields by_number
   cut_fields_more cut e t =
-      ap by_number e ∙ ap (λ b. cond b (cut_fields (cuts ++ (cut ∷ [])) (at + length field + 1) more) (Err (Number (in-first at)))) t
+      ap by_number e ∙ ap (λ b. cond b (cut_fields (cuts ++ (cut ∷ [])) (at + length field + 1) more) (Err (Number (in_first at)))) t
 
-  pub cut_fields_number : number_in 1114111 field ≡ None → cut_fields cuts at (field ∷ more) ≡ Err (Number (in-first at))
+  pub cut_fields_number : number_in 1114111 field ≡ None → cut_fields cuts at (field ∷ more) ≡ Err (Number (in_first at))
   unfolding cut_fields by_number
   cut_fields_number e = ap by_number e
 
-  pub cut_fields_order : (cut : ℕ) → number_in 1114111 field ≡ Some cut → goes_on cuts cut ≡ false → cut_fields cuts at (field ∷ more) ≡ Err (Number (in-first at))
+  pub cut_fields_order : (cut : ℕ) → number_in 1114111 field ≡ Some cut → goes_on cuts cut ≡ false → cut_fields cuts at (field ∷ more) ≡ Err (Number (in_first at))
   unfolding cut_fields by_number
   cut_fields_order cut e t =
-      ap by_number e ∙ ap (λ b. cond b (cut_fields (cuts ++ (cut ∷ [])) (at + length field + 1) more) (Err (Number (in-first at)))) t
+      ap by_number e ∙ ap (λ b. cond b (cut_fields (cuts ++ (cut ∷ [])) (at + length field + 1) more) (Err (Number (in_first at)))) t
 
 -- a field and what is left behind it are as long as what was left
 pub left_less : (part field : List ℕ) (o : Option (Bor (List ℕ))) → MatchOption o (part ≡ field) (λ r. part ≡ field ++ (44 ∷ r.now))
@@ -46,11 +46,11 @@ module _ (whole : Result (List ℕ) Fault) (cuts : List ℕ) (at : ℕ) (left : 
   turn : left ≡ Some part → whole ≡ cut_fields cuts at (others left) → fields part ≡ field ∷ more → whole ≡ cut_fields cuts at (field ∷ more)
   turn is so split = so ∙ ap (λ o. cut_fields cuts at (others o)) is ∙ ap (cut_fields cuts at) split
 
-  pub turn_number : left ≡ Some part → whole ≡ cut_fields cuts at (others left) → fields part ≡ field ∷ more → number_in 1114111 field ≡ None → whole ≡ Err (Number (in-first at))
+  pub turn_number : left ≡ Some part → whole ≡ cut_fields cuts at (others left) → fields part ≡ field ∷ more → number_in 1114111 field ≡ None → whole ≡ Err (Number (in_first at))
   turn_number is so split e = turn is so split ∙ cut_fields_number cuts at field more e
 
   pub turn_order : (cut : ℕ) → left ≡ Some part → whole ≡ cut_fields cuts at (others left) → fields part ≡ field ∷ more → number_in 1114111 field ≡ Some cut → goes_on cuts cut ≡ false
-      → whole ≡ Err (Number (in-first at))
+      → whole ≡ Err (Number (in_first at))
   turn_order cut is so split e t = turn is so split ∙ cut_fields_order cuts at field more cut e t
 
   pub turn_more : (cut : ℕ) (next : List ℕ) → left ≡ Some part → whole ≡ cut_fields cuts at (others left) → fields part ≡ field ∷ more → number_in 1114111 field ≡ Some cut → goes_on cuts cut ≡ true

@@ -17,24 +17,24 @@ abbrev pub cut_line_text : List ℕ → List ℕ
 cut_line_text cuts = codes "cuts" ++ cut_fields_text cuts
 
 -- a place in the first line
-abbrev pub in-first : ℕ → Place
-in-first offset = record { line = 1; offset = offset }
+abbrev pub in_first : ℕ → Place
+in_first offset = record { line = 1; offset = offset }
 
 -- what is wrong with the first field, or else with the count of fields
 abbrev pub fault_of_shape : List ℕ → ℕ → Option Fault
-fault_of_shape word count = cond (bytes_eq word (codes "cuts")) (cond (nat_lt 64 count) (Some (Count (in-first 0))) None) (Some (Word (in-first 0)))
+fault_of_shape word count = cond (bytes_eq word (codes "cuts")) (cond (nat_lt 64 count) (Some (Count (in_first 0))) None) (Some (Word (in_first 0)))
 
 -- the fields behind the first, left to right, from an offset on: each a number that may follow the cuts before it
 unfoldable pub cut_fields : List ℕ → ℕ → List (List ℕ) → Result (List ℕ) Fault
 cut_fields cuts at [] = Ok cuts
 cut_fields cuts at (field ∷ more) = elim (number_in 1114111 field) [
-  | None ↦ Err (Number (in-first at))
-  | Some cut ↦ cond (goes_on cuts cut) (cut_fields (cuts ++ (cut ∷ [])) (at + length field + 1) more) (Err (Number (in-first at)))
+  | None ↦ Err (Number (in_first at))
+  | Some cut ↦ cond (goes_on cuts cut) (cut_fields (cuts ++ (cut ∷ [])) (at + length field + 1) more) (Err (Number (in_first at)))
 ]
 
 -- what a line says, or its first fault: the first field, then the count of fields, then the fields
 abbrev pub cut_line_of : List (List ℕ) → Result (List ℕ) Fault
-cut_line_of [] = Err (Word (in-first 0))
+cut_line_of [] = Err (Word (in_first 0))
 cut_line_of (word ∷ more) = elim (fault_of_shape word (length (word ∷ more))) [
   | Some f ↦ Err f
   | None ↦ cut_fields [] 5 more
