@@ -1,12 +1,15 @@
 // A desk: how a program enters rules into a book over style marks.
 //
 // A rule is two states and an arrow between them. An entry opens the book and settles it again, also where a part of the
-// rule is declined: a ticket cannot be let go, so no way through `enter_rule` leaves a book open.
+// rule is declined: a ticket cannot be let go, so no way through `enter_rule` leaves a settled book open.
 #![tactic(auto)]
 
 ghost use Rattle.std.specs.Prelude.{◌≡◌, length, IfOk};
 ghost use Rattle.rulebook.specs.declared.parts.Condition.TheVariants.{Open, Settled};
+ghost use Rattle.rulebook.specs.Model.{settling};
 ghost use Rattle.rulebook.specs.View.{view};
+ghost use Rattle.bits.specs.Bit.{some_bit};
+ghost use Rattle.desk.specs.Rules.{writing, entering};
 
 use automata::Mark;
 use labels::StyleMarks;
@@ -14,6 +17,8 @@ use rulebook::{Book, Refusal, Ticket};
 
 // Writes a rule under the ticket, up to the first part that is declined. Answers the arrow's place.
 fn write_rule(book: &mut Book<'_, u64>, ticket: &Ticket, label: u64) -> Result<usize, Refusal>
+    ensures says { result ≡ (writing (view book.old) ticket.now.number label (some_bit label)).answer }
+    ensures leaves { view book.new ≡ (writing (view book.old) ticket.now.number label (some_bit label)).next }
     ensures place { IfOk result (λ k. k ≡ length (view book.old).arrows) }
     ensures number { (view book.new).number ≡ (view book.old).number }
     ensures room { (view book.new).room ≡ (view book.old).room }
@@ -30,6 +35,7 @@ fn close(book: &mut Book<'_, u64>, ticket: Ticket)
     ensures number { (view book.new).number ≡ (view book.old).number }
     ensures room { (view book.new).room ≡ (view book.old).room }
     ensures settled { (view book.new).condition ≡ Settled }
+    ensures leaves { view book.new ≡ (settling (view book.old) ticket.number).next }
 {
     match book.settle(&StyleMarks, ticket) {
         Ok(_) => (),
@@ -40,6 +46,8 @@ fn close(book: &mut Book<'_, u64>, ticket: Ticket)
 // Enters a rule into a settled book, and settles it again. An open book is declined with 6 and left as it is; what else
 // is declined, with 1, 4 or 3, leaves the parts that were written before. Answers the arrow's place.
 pub fn enter_rule(book: &mut Book<'_, u64>, label: u64) -> Result<usize, Refusal>
+    ensures says { result ≡ (entering (view book.old) label (some_bit label)).answer }
+    ensures leaves { view book.new ≡ (entering (view book.old) label (some_bit label)).next }
     ensures place { IfOk result (λ k. k ≡ length (view book.old).arrows) }
     ensures number { (view book.new).number ≡ (view book.old).number }
     ensures room { (view book.new).room ≡ (view book.old).room }

@@ -1,6 +1,6 @@
 -- One call of a history, from what the book's own calls promise. Assumes nothing.
-use Rattle.std.proofs.Common.{◌≡◌, ℕ, ◌<◌, Bool, true, false, cond, ◌&&◌, eqb, List, length, Some, None, Ok, Err, Decides, Option, Result, sym, refl, ap, ◌∙◌, subst, arith}
-use Rattle.std.proofs.lemmas.Bool.{ltb-true}
+use Rattle.std.proofs.Common.{◌≡◌, ℕ, ◌<◌, Bool, true, false, cond, ◌&&◌, T, eqb, List, length, Some, None, Ok, Err, Decides, Option, Result, sym, refl, ap, ◌∙◌, subst, arith}
+use Rattle.std.proofs.lemmas.Bool.{and_from, ltb-true}
 use Rattle.bits.specs.Matrix.{pair}
 use Rattle.automata.specs.Automata.{Automaton}
 use Rattle.automata.specs.Automata as automata
@@ -17,7 +17,10 @@ use Rattle.rulebook.specs.declared.parts.Act.TheVariants.{Reads}
 use Rattle.rulebook.specs.declared.parts.Act.TheVariants as act
 use Rattle.rulebook.specs.declared.parts.Refusal.{Refusal}
 use Rattle.rulebook.specs.declared.parts.Refusal.TheVariants.{NoSuchState, ForeignTicket}
-use Rattle.rulebook.specs.Refusals.{judged}
+use Rattle.rulebook.specs.Refusals.{judged, is_settled}
+use Rattle.rulebook.specs.declared.book.Book.{Book}
+use Rattle.rulebook.specs.View.{view, kept}
+use Rattle.rulebook.proofs.Views.{states_are}
 use Rattle.rulebook.specs.Model.{Abstract, machine, after, by, answers, with_condition, state_exists, opening, settling, asking, copying}
 use Rattle.rulebook.specs.Reducing.{Reduces}
 use Rattle.rulebook.proofs.Reduced.{into_minimal}
@@ -26,7 +29,7 @@ use Rattle.histories.specs.declared.calls.Call.TheVariants as call
 use Rattle.histories.specs.declared.calls.Answer.{Answer}
 use Rattle.histories.specs.declared.calls.Answer.TheVariants as answer
 use Rattle.histories.specs.Present.{left_by, part}
-use Rattle.histories.specs.Moments.{Moment, said, Unless, Whole, Counted, Copies, Settles, FilledBy, Still, RowsCopied, Beside, ReducedRight, Right, Step}
+use Rattle.histories.specs.Moments.{Moment, said, Unless, Whole, Counted, Copies, Settles, FilledBy, Still, RowsCopied, Beside, Says, KeptBy, KeptWithin, ReducedRight, Right, Step}
 use Rattle.histories.specs.Held.{Held}
 use Rattle.rulebook.proofs.Edits.{Edited, open_settled, opened}
 
@@ -38,7 +41,14 @@ settled_first Open r x e = let z : ◌≡◌ {A = ℕ} 0 1 = cc in absurd (omega
 kept_agree : {V : Type 0} (M : Automaton V) (K L : ℕ → ℕ → Bool) → ((p q : ℕ) → p < M.size → L p q ≡ K p q) → Keeps M K → Keeps M L
 kept_agree M K L same k p q hp hq = ((λ t. (k p q hp hq).0 (forth (same p q hp) t)), λ s. back (same p q hp) ((k p q hp hq).1 s))
 
-module _ {P V : Type 0} (text : List V) (holds : P → V → Bool) (sat : P → Bool) (m n : Moment P) where
+-- a settled book keeps no pair but of its states
+pub kept_within : {P : Type 0} (b : Book P) → (view b).condition ≡ Settled → (p q : ℕ) → T (kept b p q) → (p < length (view b).marks) × (q < length (view b).marks)
+kept_within b s p q t =
+    let both = b.inner.bounded p q (and_from (is_settled b.inner.condition) (pair b.inner.rows p q) (ap is_settled s) (from_T _ t)) in
+    let states = states_are b in
+    (omega arith, omega arith)
+
+module _ {P V : Type 0} (text : List V) (holds : P → V → Bool) (sat : P → Bool) (m n : Moment P) (within : KeptWithin n) where
   whole_same : n.book ≡ m.book → n.kept ≡ m.kept → Whole holds m → Whole holds n
   whole_same e k w s =
       subst (λ x. Keeps (machine holds x) n.kept) (sym e) (subst (Keeps (machine holds m.book)) (sym k) (w (sym (ap (λ x. x.condition) e) ∙ s)))
@@ -49,20 +59,23 @@ module _ {P V : Type 0} (text : List V) (holds : P → V → Bool) (sat : P → 
       whole_same (e ∙ d.still settled) k w s
 
   -- an edit
-  pub edit_step : (c : Call P) (a : Answer) → n.book ≡ left_by sat m.book c → Edited m.book (left_by sat m.book c) → n.kept ≡ m.kept → Beside holds m c a n → Right text holds sat m c a n → Step (Whole holds m) text holds sat m c a n
-  edit_step c a e d k s r = record { book = e; beside = s; right = λ w. r; whole = whole_edited (left_by sat m.book c) e d k }
+  pub edit_step : (c : Call P) (a : Answer) → n.book ≡ left_by sat m.book c → Edited m.book (left_by sat m.book c) → n.kept ≡ m.kept → Beside holds m c a n → Says text holds sat m c a n → KeptBy m c n → Right text holds sat m c a n → Step (Whole holds m) text holds sat m c a n
+  edit_step c a e d k s says keeps r = record { book = e; beside = s; says = says; kept = keeps; within = within; right = λ w. r; whole = whole_edited (left_by sat m.book c) e d k }
 
   -- a call that leaves the book
-  pub still_step : (c : Call P) (a : Answer) → left_by sat m.book c ≡ m.book → n.book ≡ m.book → n.kept ≡ m.kept → Beside holds m c a n → (Whole holds m → Right text holds sat m c a n) → Step (Whole holds m) text holds sat m c a n
-  still_step c a l e k s r = record { book = e ∙ sym l; beside = s; right = r; whole = whole_same e k }
+  pub still_step : (c : Call P) (a : Answer) → left_by sat m.book c ≡ m.book → n.book ≡ m.book → n.kept ≡ m.kept → Beside holds m c a n → Says text holds sat m c a n → KeptBy m c n → (Whole holds m → Right text holds sat m c a n) → Step (Whole holds m) text holds sat m c a n
+  still_step c a l e k s says keeps r = record { book = e ∙ sym l; beside = s; says = says; kept = keeps; within = within; right = r; whole = whole_same e k }
 
-  pub open_step : (a : Answer) → a ≡ said answer.Ticket (opening m.book).answer → n.book ≡ (opening m.book).next → Still m n → Step (Whole holds m) text holds sat m call.Open a n
-  open_step a says e s = record { book = e; beside = s; right = λ w. says; whole = λ w o. open_settled (sym (opened m.book) ∙ sym (ap (λ x. x.condition) e) ∙ o) }
+  pub open_step : (a : Answer) → a ≡ said answer.Ticket (opening m.book).answer → n.book ≡ (opening m.book).next → n.kept ≡ m.kept → Still m n → Step (Whole holds m) text holds sat m call.Open a n
+  open_step a says e k s = record { book = e; beside = s; says = says; kept = k; within = within; right = λ w. says; whole = λ w o. open_settled (sym (opened m.book) ∙ sym (ap (λ x. x.condition) e) ∙ o) }
 
   pub settle_step : (t : ℕ) (a : Answer) → Settles (settling m.book t).answer (machine holds m.book) m.kept a n.kept → n.book ≡ (settling m.book t).next → Still m n → Step (Whole holds m) text holds sat m (call.Settle t) a n
   settle_step t a says e s = record {
     book = e;
     beside = s;
+    says = says;
+    kept = tt;
+    within = within;
     right = λ w. right (settling m.book t).answer says;
     whole = whole (eqb t m.book.number) m.book.condition refl says e;
   }
@@ -91,7 +104,7 @@ module _ {P V : Type 0} (text : List V) (holds : P → V → Bool) (sat : P → 
       go false y e = let z : ◌≡◌ {A = ℕ} 0 1 = cc in absurd (omega arith)
 
   pub ask_step : (p q : ℕ) (a : Answer) → a ≡ said answer.Kept (asking m.book m.kept p q) → n.book ≡ m.book → n.kept ≡ m.kept → Still m n → Step (Whole holds m) text holds sat m (call.Ask p q) a n
-  ask_step p q a says e k s = still_step (call.Ask p q) a refl e k s (λ w. go (asking m.book m.kept p q) refl says w)
+  ask_step p q a says e k s = still_step (call.Ask p q) a refl e k s says k (λ w. go (asking m.book m.kept p q) refl says w)
     where
       go : (r : Result Bool Refusal) → asking m.book m.kept p q ≡ r → a ≡ said answer.Kept r → Whole holds m → Unless r a ((k : Bool) × (a ≡ answer.Kept k) × Decides k (simulation.Kept (machine holds m.book) p q))
       go (Err x) e says w = says
@@ -101,7 +114,7 @@ module _ {P V : Type 0} (text : List V) (holds : P → V → Bool) (sat : P → 
           (k, says, ((λ t. d.0 (to_T (sym f.3 ∙ t))), λ x. f.3 ∙ from_T _ (d.1 x)))
 
   pub copy_step : (i j : ℕ) (a : Answer) → a ≡ said (λ _. answer.Done) (copying m.book (length (part i j m.words))) → n.book ≡ m.book → n.kept ≡ m.kept → RowsCopied i j m n → Step (Whole holds m) text holds sat m (call.CopyRows i j) a n
-  copy_step i j a says e k s = still_step (call.CopyRows i j) a refl e k s (λ w. go (copying m.book (length (part i j m.words))) refl says s.words w)
+  copy_step i j a says e k s = still_step (call.CopyRows i j) a refl e k s says k (λ w. go (copying m.book (length (part i j m.words))) refl says s.words w)
     where
       go : (r : Result (Unit {0}) Refusal) → copying m.book (length (part i j m.words)) ≡ r → a ≡ said (λ _. answer.Done) r → Copies r i j (length m.book.marks) m.kept m.words n.words → Whole holds m
           → Unless r a ((a ≡ answer.Done) × Keeps (machine holds m.book) (pair (part i j n.words)))
@@ -109,10 +122,10 @@ module _ {P V : Type 0} (text : List V) (holds : P → V → Bool) (sat : P → 
       go (Ok x) e says f w = (says, kept_agree (machine holds m.book) m.kept (pair (part i j n.words)) (λ p q h. f.here.pairs p q h) (w (settled_first m.book.condition _ x e).0))
 
   pub word_step : (i j : ℕ) (k : Bool) → Decides k (automata.Accepts (machine holds m.book) (part i j text)) → n.book ≡ m.book → n.kept ≡ m.kept → Still m n → Step (Whole holds m) text holds sat m (call.TestWord i j) (answer.Accepts k) n
-  word_step i j k d e same s = still_step (call.TestWord i j) (answer.Accepts k) refl e same s (λ w. (k, refl, d))
+  word_step i j k d e same s = still_step (call.TestWord i j) (answer.Accepts k) refl e same s (k, refl, d) same (λ w. (k, refl, d))
 
   pub reduce_step : (a : Answer) → FilledBy holds m.book m.kept m.target m.order a n.target n.order → n.book ≡ m.book → n.kept ≡ m.kept → n.words ≡ m.words → Step (Whole holds m) text holds sat m call.Reduce a n
-  reduce_step a f e k words = still_step call.Reduce a refl e k (record { target = f; words = words }) (λ w c s. go f.result f.reduces (sym f.says ∙ s) w)
+  reduce_step a f e k words = still_step call.Reduce a refl e k (record { target = f; words = words }) tt k (λ w c s. go f.result f.reduces (sym f.says ∙ s) w)
     where
       go : {c : reduction.Counts} (r : Result reduction.Counts Refusal) → Reduces holds m.book m.kept m.target m.order r n.target n.order → said answer.Counts r ≡ answer.Counts c → Whole holds m
           → ReducedRight holds m.book n.target n.order c

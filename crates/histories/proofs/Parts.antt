@@ -1,5 +1,5 @@
 -- A part of a list, and the list with another part in its place. Assumes nothing.
-use Rattle.std.proofs.Common.{◌≡◌, ℕ, ◌-◌, ◌≤◌, Bool, List, length, Ok, Err, Result, sym, ap, ◌∙◌, subst, arith}
+use Rattle.std.proofs.Common.{◌≡◌, ℕ, ◌+◌, ◌-◌, ◌≤◌, Bool, List, length, drop, Ok, Err, Result, sym, ap, ◌∙◌, subst, arith}
 use borrow.Rule.Slice.PartMut.{put_mid, put_same, same_len_mid, mid_len}
 use Rattle.std.specs.List.{between}
 use Rattle.std.proofs.lemmas.Slice.{take-put_mid_below, drop-put_mid, between-put_mid}
@@ -20,9 +20,10 @@ module _ (i j n : ℕ) (K : ℕ → ℕ → Bool) (old ys : List ℕ) (h : i ≤
       let within : length ys ≡ j - i = e ∙ mid_len i j old k in
       let before = part_is i j old h k in
       let behind : part i j (put_mid i (j - i) old ys) ≡ ys = part_is i j (put_mid i (j - i) old ys) h (omega arith) ∙ between-put_mid i (j - i) old ys j (omega arith) within in
+      let reach : j ≡ i + length (part i j old) = omega (arith, ap length before, mid_len i j old k) in
       record {
         here = subst (λ (x : List ℕ). Copied n K x (part i j (put_mid i (j - i) old ys))) (sym before) (subst (λ (x : List ℕ). Copied n K (between i j old) x) (sym behind) c);
         before = take-put_mid_below i (j - i) old ys i (omega arith) (omega arith);
-        behind = drop-put_mid i (j - i) old ys j (omega arith) (omega arith) within;
+        behind = subst (λ (d : ℕ). drop d (put_mid i (j - i) old ys) ≡ drop d old) reach (drop-put_mid i (j - i) old ys j (omega arith) (omega arith) within);
         long = long;
       }

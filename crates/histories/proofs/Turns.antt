@@ -6,13 +6,14 @@ use Rattle.reduction.specs.declared.Counts.{Counts}
 use Rattle.histories.specs.declared.calls.Call.TheVariants.{Reduce}
 use Rattle.histories.specs.declared.calls.Answer.{Answer}
 use Rattle.histories.specs.declared.calls.Answer.TheVariants as answer
-use Rattle.histories.specs.Present.{present}
+use Rattle.histories.specs.Present.{left_by, present, ticket_by, ticket_after}
+use Rattle.rulebook.specs.Model.{Abstract}
 use Rattle.histories.specs.Moments.{Moment, Whole, Start, ReducedRight, Step, History}
 
 module _ {P V : Type 0} (text : List V) (holds : P → V → Bool) (sat : P → Bool) where
   -- less is known of the start
   pub step_from : {W X : Type 0} {m n : Moment P} {c : Call P} {a : Answer} → (W → X) → Step X text holds sat m c a n → Step W text holds sat m c a n
-  step_from f s = record { book = s.book; beside = s.beside; right = λ w. s.right (f w); whole = λ w. s.whole (f w) }
+  step_from f s = record { book = s.book; beside = s.beside; says = s.says; kept = s.kept; within = s.within; right = λ w. s.right (f w); whole = λ w. s.whole (f w) }
 
   module _ (W : Type 0) where
     pub history_more : (m n k : Moment P) (cs : List (Call P)) (as' : List Answer) (c : Call P) (a : Answer) → History W text holds sat m cs as' n → Step W text holds sat n c a k → History W text holds sat m (cs ++ (c ∷ [])) (as' ++ (a ∷ [])) k
@@ -42,6 +43,18 @@ module _ {P V : Type 0} (text : List V) (holds : P → V → Bool) (sat : P → 
         subst (λ x. History W text holds sat m x (take (i + 1) (set as' i a)) k) calls
         (subst (λ x. History W text holds sat m (take i cs ++ (c ∷ [])) x k) answers
         (history_more m n k (take i cs) (take i as') c a h (step_from (history_whole m n (take i cs) (take i as') h f) s)))
+
+-- a last call more
+ticket_more : {P : Type 0} (sat : P → Bool) (b : Abstract P) (h : Bool) (cs : List (Call P)) (c : Call P) → ticket_after sat b h (cs ++ (c ∷ [])) ≡ ticket_by (present sat b cs) (ticket_after sat b h cs) c
+ticket_more sat b h [] c = refl
+ticket_more sat b h (d ∷ cs) c = ticket_more sat (left_by sat b d) (ticket_by b h d) cs c
+
+-- whether a ticket is held, after one turn more
+pub ticket_turn : {P : Type 0} (sat : P → Bool) (b n : Abstract P) (h o x : Bool) (cs : List (Call P)) (i : ℕ) (c : Call P) → i < length cs → c ≡ get_or cs i c
+    → n ≡ present sat b (take i cs) → o ≡ ticket_after sat b h (take i cs) → x ≡ ticket_by n o c → x ≡ ticket_after sat b h (take (i + 1) cs)
+ticket_turn sat b n h o x cs i c lt read here was is =
+    let calls : take i cs ++ (c ∷ []) ≡ take (i + 1) cs = ap (λ y. take i cs ++ (y ∷ [])) read ∙ sym (take_more cs i c lt) in
+    is ∙ ap (λ y. ticket_by y o c) here ∙ ap (λ y. ticket_by (present sat b (take i cs)) y c) was ∙ sym (ticket_more sat b h (take i cs) c) ∙ ap (ticket_after sat b h) calls
 
 -- a start keeps the right pairs
 pub start_whole : {P V : Type 0} (holds : P → V → Bool) (m : Moment P) → Start holds m → Whole holds m

@@ -1,5 +1,5 @@
 -- What stands at a moment of a history, what is right to answer then, and what a history is. Assumes nothing.
-use Rattle.std.specs.Prelude.{◌≡◌, ℕ, Bool, ◌⊎◌, List, [], ◌∷◌, length, take, drop, Ok, Err, Decides, Result}
+use Rattle.std.specs.Prelude.{◌≡◌, ℕ, ◌+◌, ◌<◌, Bool, T, ◌⊎◌, List, [], ◌∷◌, length, take, drop, Ok, Err, Decides, Result}
 use Rattle.bits.specs.Matrix.{pair}
 use Rattle.automata.specs.Automata.{Automaton}
 use Rattle.automata.specs.Automata as automata
@@ -40,11 +40,11 @@ pub record Moment (P : Type 0) : Type 0 where
 abbrev pub Counted : {V : Type 0} → Automaton V → ℕ → Type 0
 Counted M n = (K : ℕ → ℕ → Bool) × Keeps M K × (n ≡ pairs K M.size)
 
--- the part from i up to j of the words holds the kept pairs; the rest is as it was
+-- the part from i up to j of the words, if there is such a part, holds the kept pairs; the rest is as it was
 pub record CopiedPart (i j n : ℕ) (K : ℕ → ℕ → Bool) (old new : List ℕ) : Type 0 where
   pub here : Copied n K (part i j old) (part i j new)
   pub before : take i new ≡ take i old
-  pub behind : drop j new ≡ drop j old
+  pub behind : drop (i + length (part i j old)) new ≡ drop (i + length (part i j old)) old
   pub long : length new ≡ length old
 
 abbrev pub CopiesWhole : {R : Type 0} → Result R Refusal → ℕ → (ℕ → ℕ → Bool) → List ℕ → List ℕ → Type 0
@@ -78,6 +78,23 @@ module _ {P : Type 0} where
     pub target : n.target ≡ m.target
     pub order : n.order ≡ m.order
     pub words : Copies (copying m.book (length (part i j m.words))) i j (length m.book.marks) m.kept m.words n.words
+
+  -- a settled book keeps no pair but of its states
+  abbrev pub KeptWithin : Moment P → Type 0
+  KeptWithin m = m.book.condition ≡ Settled → (p q : ℕ) → T (m.kept p q) → (p < length m.book.marks) × (q < length m.book.marks)
+
+  -- no call but an accepted settle changes the kept pairs
+  abbrev pub KeptBy : Moment P → Call P → Moment P → Type 0
+  KeptBy m Open n = n.kept ≡ m.kept
+  KeptBy m (AddState t k) n = n.kept ≡ m.kept
+  KeptBy m (ReMark t p k) n = n.kept ≡ m.kept
+  KeptBy m (AddArrow t p l q) n = n.kept ≡ m.kept
+  KeptBy m (Strike t k) n = n.kept ≡ m.kept
+  KeptBy m (Settle t) n = Unit {0}
+  KeptBy m (Ask p q) n = n.kept ≡ m.kept
+  KeptBy m (CopyRows i j) n = n.kept ≡ m.kept
+  KeptBy m (TestWord i j) n = n.kept ≡ m.kept
+  KeptBy m Reduce n = n.kept ≡ m.kept
 
 module _ {P V : Type 0} where
   -- a settled book keeps exactly the pairs that some simulation has
@@ -115,6 +132,20 @@ module _ {P V : Type 0} where
     pub arrows : c.arrows ≡ length t.arrows
     pub starts : Keeps (machine holds t) L
 
+  -- what a call answers, whatever pairs the book keeps: its value, or why it is declined. Of an accepted settle it also says which
+  -- pairs are then kept; what reduce answers stands with its target.
+  abbrev pub Says : List V → (P → V → Bool) → (P → Bool) → Moment P → Call P → Answer → Moment P → Type 0
+  Says text holds sat m Open a n = a ≡ said answer.Ticket (opening m.book).answer
+  Says text holds sat m (AddState t k) a n = a ≡ said answer.State (adding_state m.book t k).answer
+  Says text holds sat m (ReMark t p k) a n = a ≡ said answer.Mark (re_marking m.book t p k).answer
+  Says text holds sat m (AddArrow t p l q) a n = a ≡ said answer.Place (adding_arrow m.book t p l q (sat l)).answer
+  Says text holds sat m (Strike t k) a n = a ≡ said (λ _. answer.Done) (striking m.book t k).answer
+  Says text holds sat m (Settle t) a n = Settles (settling m.book t).answer (machine holds m.book) m.kept a n.kept
+  Says text holds sat m (Ask p q) a n = a ≡ said answer.Kept (asking m.book m.kept p q)
+  Says text holds sat m (CopyRows i j) a n = a ≡ said (λ _. answer.Done) (copying m.book (length (part i j m.words)))
+  Says text holds sat m (TestWord i j) a n = (k : Bool) × (a ≡ answer.Accepts k) × Decides k (automata.Accepts (machine holds m.book) (part i j text))
+  Says text holds sat m Reduce a n = Unit {0}
+
   -- the answer that is right where the book stands as at m, and n is what then stands; a word is a part of the text
   abbrev pub Right : List V → (P → V → Bool) → (P → Bool) → Moment P → Call P → Answer → Moment P → Type 0
   Right text holds sat m Open a n = a ≡ said answer.Ticket (opening m.book).answer
@@ -128,11 +159,15 @@ module _ {P V : Type 0} where
   Right text holds sat m (TestWord i j) a n = (k : Bool) × (a ≡ answer.Accepts k) × Decides k (automata.Accepts (machine holds m.book) (part i j text))
   Right text holds sat m Reduce a n = (c : reduction.Counts) → a ≡ answer.Counts c → ReducedRight holds m.book n.target n.order c
 
-  -- one call: the book that then stands is the present one, and what was lent is as the call says. Where W holds of the start, the
-  -- answer is right, and a settled book keeps exactly the pairs that some simulation has.
+  -- one call: the book that then stands is the present one; the answer, what was lent and the kept pairs are as the call says, and these
+  -- are pairs of states. Where W holds of the start, the answer is right, and a settled book keeps exactly the pairs that some simulation
+  -- has.
   pub record Step (W : Type 0) (text : List V) (holds : P → V → Bool) (sat : P → Bool) (m : Moment P) (c : Call P) (a : Answer) (n : Moment P) : Type 0 where
     pub book : n.book ≡ left_by sat m.book c
     pub beside : Beside holds m c a n
+    pub says : Says text holds sat m c a n
+    pub kept : KeptBy m c n
+    pub within : KeptWithin n
     pub right : W → Right text holds sat m c a n
     pub whole : W → Whole holds n
 

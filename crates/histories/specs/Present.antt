@@ -1,5 +1,5 @@
 -- The present book: what a list of calls leaves, worked out from the start and the arguments of the calls alone. Assumes nothing.
-use Rattle.std.specs.Prelude.{ℕ, Bool, cond, ◌&&◌, List, [], ◌∷◌, length, nat_le}
+use Rattle.std.specs.Prelude.{ℕ, Bool, not, cond, ◌&&◌, ◌||◌, is_ok, List, [], ◌∷◌, length, nat_le}
 use Rattle.std.specs.List.{between}
 use Rattle.rulebook.specs.Model.{Abstract, opening, adding_state, re_marking, adding_arrow, striking, settling}
 use Rattle.histories.specs.declared.calls.Call.{Call}
@@ -23,6 +23,25 @@ module _ {P : Type 0} (satisfiable : P → Bool) where
   abbrev pub present : Abstract P → List (Call P) → Abstract P
   present b [] = b
   present b (c ∷ cs) = present (left_by b c) cs
+
+-- whether a ticket of the book is held after a call, where one is or is not before: an accepted open hands one out, and an accepted
+-- settle spends it
+abbrev pub ticket_by : {P : Type 0} → Abstract P → Bool → Call P → Bool
+ticket_by b h Open = is_ok (opening b).answer || h
+ticket_by b h (AddState t m) = h
+ticket_by b h (ReMark t p m) = h
+ticket_by b h (AddArrow t p l q) = h
+ticket_by b h (Strike t k) = h
+ticket_by b h (Settle t) = not (is_ok (settling b t).answer) && h
+ticket_by b h (Ask p q) = h
+ticket_by b h (CopyRows i j) = h
+ticket_by b h (TestWord i j) = h
+ticket_by b h Reduce = h
+
+-- and after the calls, one after another
+abbrev pub ticket_after : {P : Type 0} → (P → Bool) → Abstract P → Bool → List (Call P) → Bool
+ticket_after satisfiable b h [] = h
+ticket_after satisfiable b h (c ∷ cs) = ticket_after satisfiable (left_by satisfiable b c) (ticket_by b h c) cs
 
 -- the part of a list from i up to j, or nothing where there is no such part
 abbrev pub part : {X : Type 0} → ℕ → ℕ → List X → List X

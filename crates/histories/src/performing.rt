@@ -1,12 +1,12 @@
 // One call of a history, by the public calls of the book and nothing else.
 
-ghost use Rattle.std.specs.Prelude.{◌≡◌, ℕ, Bool, length, Decides, MatchResult};
+ghost use Rattle.std.specs.Prelude.{◌≡◌, ℕ, Bool, not, ◌&&◌, ◌||◌, length, Decides, MatchResult, is_ok, is_some};
 ghost use Rattle.rulebook.specs.Model.{adding_state, re_marking, adding_arrow, striking, settling, opening, asking, copying, machine};
 ghost use Rattle.rulebook.specs.View.{view, kept};
 ghost use Rattle.automata.specs.Below.{pairs};
 ghost use Rattle.automata.specs.Simulation.{Keeps};
 ghost use Rattle.histories.specs.declared.calls.Answer.TheVariants.{State, Place, Done, Pairs, Kept, Ticket as Bears, Mark as Old};
-ghost use Rattle.histories.specs.Present.{part};
+ghost use Rattle.histories.specs.Present.{part, ticket_by};
 ghost use Rattle.histories.specs.Moments.{said, Whole, Step, Copies, CopiesWhole, Settles, FilledBy};
 ghost use Rattle.histories.specs.Held.{Held, moment};
 
@@ -114,6 +114,7 @@ fn open<P>(book: &mut Book<'_, P>, held: Option<Ticket>) -> (Answer, Option<Tick
     ensures leaves { view book.new ≡ (opening (view book.old)).next }
     ensures keeps { kept book.new ≡ kept book.old }
     ensures held { Held (view book.new) result.1 }
+    ensures ticket { is_some result.1 ≡ (is_ok (opening (view book.old)).answer || is_some held) }
     ensures lent { book.new.table.slots.ghost_name ≡ book.old.table.slots.ghost_name }
 {
     match book.open() {
@@ -136,6 +137,7 @@ fn settle<L: LabelAlgebra>(
     ensures says { Settles (settling (view book.old) number).answer (machine (L.LabelAlgebra.holds labels.now) (view book.old)) (kept book.old) result.0 (kept book.new) }
     ensures leaves { view book.new ≡ (settling (view book.old) number).next }
     ensures held { Held (view book.new) result.1 }
+    ensures ticket { is_some result.1 ≡ (not (is_ok (settling (view book.old) number).answer) && is_some held) }
     ensures lent { book.new.table.slots.ghost_name ≡ book.old.table.slots.ghost_name }
 {
     let mut none: [Arrow<L::Predicate>; 0] = [];
@@ -224,6 +226,7 @@ pub(crate) fn perform<L: LabelAlgebra>(
     requires { Held (view book.old) held }
     ensures step { Step (Whole (L.LabelAlgebra.holds labels.now) (moment book.old target.old words.old)) text.now (L.LabelAlgebra.holds labels.now) (L.LabelAlgebra.satisfiable labels.now) (moment book.old target.old words.old) call result.0 (moment book.new target.new words.new) }
     ensures held { Held (view book.new) result.1 }
+    ensures ticket { is_some result.1 ≡ ticket_by (view book.old) (is_some held) call }
     ensures lent { book.new.table.slots.ghost_name ≡ book.old.table.slots.ghost_name }
     ensures aimed { target.new.table.slots.ghost_name ≡ target.old.table.slots.ghost_name }
 {

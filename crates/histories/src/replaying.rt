@@ -1,8 +1,8 @@
 // Whole histories: any list of calls, and any list of calls with a reduction at its end.
 
-ghost use Rattle.std.specs.Prelude.{◌≡◌, ◌≤◌, [], ◌∷◌, ◌++◌, length, take, drop, IfOk, MatchResult};
+ghost use Rattle.std.specs.Prelude.{◌≡◌, ◌≤◌, [], ◌∷◌, ◌++◌, length, take, drop, is_some, IfOk, MatchResult};
 ghost use Rattle.rulebook.specs.View.{view, kept};
-ghost use Rattle.histories.specs.Present.{present};
+ghost use Rattle.histories.specs.Present.{present, ticket_after};
 ghost use Rattle.reduction.specs.declared.Counts.{Counts};
 ghost use Rattle.histories.specs.declared.calls.Call.TheVariants.{Reduce};
 ghost use Rattle.histories.specs.declared.calls.Answer.TheVariants as answered;
@@ -54,6 +54,7 @@ fn carry_out<L: LabelAlgebra>(
     ensures history { History (Start (L.LabelAlgebra.holds labels.now) (moment book.old target.old words.old)) text.now (L.LabelAlgebra.holds labels.now) (L.LabelAlgebra.satisfiable labels.now) (moment book.old target.old words.old) calls.now (take (length calls.now) answers.new) (moment book.new target.new words.new) }
     ensures beyond { drop (length calls.now) answers.new ≡ drop (length calls.now) answers.old }
     ensures held { Held (view book.new) result }
+    ensures ticket { is_some result ≡ ticket_after (L.LabelAlgebra.satisfiable labels.now) (view book.old) (is_some held) calls.now }
     ensures lent { book.new.table.slots.ghost_name ≡ book.old.table.slots.ghost_name }
     ensures aimed { target.new.table.slots.ghost_name ≡ target.old.table.slots.ghost_name }
 {
@@ -85,6 +86,7 @@ pub fn replay<L: LabelAlgebra>(
     ensures history { MatchResult result (λ _. History (Start (L.LabelAlgebra.holds labels.now) (moment book.old target.old words.old)) text.now (L.LabelAlgebra.holds labels.now) (L.LabelAlgebra.satisfiable labels.now) (moment book.old target.old words.old) calls.now (take (length calls.now) answers.new) (moment book.new target.new words.new)) (λ _. answers.new ≡ answers.old) }
     ensures beyond { drop (length calls.now) answers.new ≡ drop (length calls.now) answers.old }
     ensures held { MatchResult result (λ t. Held (view book.new) t) (λ e. e.1 ≡ held) }
+    ensures ticket { IfOk result (λ t. is_some t ≡ ticket_after (L.LabelAlgebra.satisfiable labels.now) (view book.old) (is_some held) calls.now) }
     ensures lent { book.new.table.slots.ghost_name ≡ book.old.table.slots.ghost_name }
     ensures aimed { target.new.table.slots.ghost_name ≡ target.old.table.slots.ghost_name }
 {
@@ -115,7 +117,10 @@ pub fn reduce_after<L: LabelAlgebra>(
     ensures says { said_reduction result ≡ replaying (view book.old) held (length calls.now) (length answers.old) }
     ensures history { MatchResult result (λ d. History (Start (L.LabelAlgebra.holds labels.now) (moment book.old target.old words.old)) text.now (L.LabelAlgebra.holds labels.now) (L.LabelAlgebra.satisfiable labels.now) (moment book.old target.old words.old) (calls.now ++ (Reduce ∷ [])) (take (length calls.now) answers.new ++ (d.answer ∷ [])) (moment book.new target.new words.new)) (λ e. ((moment book.new target.new words.new) ≡ (moment book.old target.old words.old)) × (answers.new ≡ answers.old) × (e.1 ≡ held)) }
     ensures reduced { IfOk result (λ d. (c : Counts) → d.answer ≡ answered.Counts c → Start (L.LabelAlgebra.holds labels.now) (moment book.old target.old words.old) → ReducedRight (L.LabelAlgebra.holds labels.now) (present (L.LabelAlgebra.satisfiable labels.now) (view book.old) calls.now) (view target.new) (kept target.new) c) }
+    ensures leaves { IfOk result (λ _. view book.new ≡ present (L.LabelAlgebra.satisfiable labels.now) (view book.old) calls.now) }
+    ensures beyond { drop (length calls.now) answers.new ≡ drop (length calls.now) answers.old }
     ensures held { IfOk result (λ d. Held (view book.new) d.held) }
+    ensures ticket { IfOk result (λ d. is_some d.held ≡ ticket_after (L.LabelAlgebra.satisfiable labels.now) (view book.old) (is_some held) calls.now) }
     ensures lent { book.new.table.slots.ghost_name ≡ book.old.table.slots.ghost_name }
     ensures aimed { target.new.table.slots.ghost_name ≡ target.old.table.slots.ghost_name }
 {

@@ -13,7 +13,7 @@ mod reducing;
 mod settling;
 mod slots;
 
-// Leave to edit the open book with this number. It is not `Drop`: whoever opens a book owes its settling.
+// Leave to edit the open book with this number. It is not `Drop`: whoever opens a book has to settle it.
 pub struct Ticket {
     number: u32,
 }

@@ -1,5 +1,5 @@
 // The fields of a line by their places, and what each must hold. A field is looked up from the line's start, which costs
-// no more than one pass over the line, and a line has at most five.
+// no more than one pass over the line; the lines that are read so have at most five.
 
 ghost use Rattle.std.specs.Prelude.{◌≡◌, ◌+◌, ◌^◌, ◌<◌, ◌≤◌, [], ◌∷◌, length, slice_index_or};
 ghost use Rattle.lines.specs.Fields.{fields};
@@ -117,7 +117,7 @@ fn read_mark(field: &[u8]) -> Option<Mark>
     }
 }
 
-// The same as a mark.
+// The mark that the field `k` says.
 pub(crate) fn mark_at(line: &[u8], at: Place, k: usize) -> Result<Mark, Fault>
     requires { at.offset + length line.now < 2 ^ 63 }
     ensures { result ≡ mark_at_place at (fields line.now) k }
@@ -129,7 +129,7 @@ pub(crate) fn mark_at(line: &[u8], at: Place, k: usize) -> Result<Mark, Fault>
     }
 }
 
-// The same as a label.
+// The label that the field `k` says.
 pub(crate) fn label_at<L: WrittenAlgebra>(
     a: &L,
     line: &[u8],

@@ -1,6 +1,6 @@
 // Scripts: what the program `replay` reads.
 //
-// A script is cuts and a list of calls on a book. It is read in one pass, line by line; the calls, and the symbols of
+// A script is cuts and a list of calls on a book. It is read line by line, from the first to the last; the calls, and the symbols of
 // their words, go into `Vec`s, so that nothing is carried out of a script before it was accepted whole.
 #![tactic(auto)]
 

@@ -22,7 +22,7 @@ pub(super) fn judge(condition: Condition, act: Act) -> Result<Condition, Refusal
 }
 
 impl Ticket {
-    // The number of the book that it opens.
+    // The number that it bears.
     pub fn number(&self) -> u32
         ensures { result ≡ self.now.number }
     {
@@ -59,7 +59,7 @@ impl<'t, P> Book<'t, P> {
         judge(self.inner.condition, act)
     }
 
-    // Opens a settled book; whoever holds the ticket may edit it, and owes its settling.
+    // Opens a settled book; whoever holds the ticket may edit it, and has to settle it.
     pub fn open(&mut self) -> Result<Ticket, Refusal>
         ensures says { said_ticket result ≡ (opening (view self.old)).answer }
         ensures leaves { view self.new ≡ (opening (view self.old)).next }

@@ -1,4 +1,5 @@
-// Reduce: the least book that a settled one simulates and that simulates it, into an empty target.
+// Reduce: the reduction of a settled book by the pairs that it keeps, into an empty target. Where these are the pairs that some simulation has,
+// it is the least book that the settled one simulates and that simulates it.
 
 ghost use Rattle.std.specs.Prelude.{◌≡◌, length, IfNone, IfOk, MatchOption};
 ghost use Rattle.bits.specs.Matrix.{pair};

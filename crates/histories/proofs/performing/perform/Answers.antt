@@ -1,9 +1,10 @@
-use Rattle.std.proofs.Common.{refl}
+use Rattle.std.proofs.Common.{is_some, refl, sym, ap, ◌∙◌}
 use Rattle.rulebook.specs.View.{view}
 use Rattle.histories.specs.declared.calls.Call.TheVariants as call
+use Rattle.histories.specs.Present.{ticket_by}
 use Rattle.histories.specs.Held.{moment}
 use Rattle.rulebook.proofs.Edits.{state_added, re_marked, arrow_added, struck}
-use Rattle.histories.proofs.Carrying.{edit_step, open_step, settle_step, ask_step, copy_step, word_step, reduce_step, step_of, held_edited}
+use Rattle.histories.proofs.Carrying.{edit_step, open_step, settle_step, ask_step, copy_step, word_step, reduce_step, kept_within, step_of, held_edited}
 use Rattle.histories.proofs.performing.perform.Goals as goal
 
 pub returns-in-Open : goal.returns-in-Open
@@ -13,8 +14,9 @@ returns-in-Open g c =
     let m = moment a.book.now a.target.now a.words.now in
     let e = c.open.ensures in
     record {
-      step = step_of c.in-Open.is (open_step a.text.now (L.holds a.labels.now) (L.satisfiable a.labels.now) m (moment c.open.new.book a.target.now a.words.now) c.open.result.0 e.says e.leaves (record { target = refl; order = refl; words = refl }));
+      step = step_of c.in-Open.is (open_step a.text.now (L.holds a.labels.now) (L.satisfiable a.labels.now) m (moment c.open.new.book a.target.now a.words.now) (kept_within c.open.new.book) c.open.result.0 e.says e.leaves e.keeps (record { target = refl; order = refl; words = refl }));
       held = e.held;
+      ticket = e.ticket ∙ sym (ap (ticket_by (view a.book.now) (is_some a.held)) c.in-Open.is);
       lent = e.lent;
       aimed = refl;
     }
@@ -28,8 +30,9 @@ returns-in-AddState g c =
     let b = c.add_state.new.book in
     let d = state_added (view a.book.now) _ c.in-AddState.ticket c.in-AddState.mark refl in
     record {
-      step = step_of c.in-AddState.is (edit_step a.text.now (L.holds a.labels.now) (L.satisfiable a.labels.now) m (moment b a.target.now a.words.now) (call.AddState c.in-AddState.ticket c.in-AddState.mark) c.add_state.result e.leaves d e.keeps (record { target = refl; order = refl; words = refl }) e.says);
+      step = step_of c.in-AddState.is (edit_step a.text.now (L.holds a.labels.now) (L.satisfiable a.labels.now) m (moment b a.target.now a.words.now) (kept_within b) (call.AddState c.in-AddState.ticket c.in-AddState.mark) c.add_state.result e.leaves d e.keeps (record { target = refl; order = refl; words = refl }) e.says e.keeps e.says);
       held = held_edited (view a.book.now) _ (view b) a.held e.leaves d c.requires;
+      ticket = sym (ap (ticket_by (view a.book.now) (is_some a.held)) c.in-AddState.is);
       lent = e.lent;
       aimed = refl;
     }
@@ -43,8 +46,9 @@ returns-in-ReMark g c =
     let b = c.re_mark.new.book in
     let d = re_marked (view a.book.now) _ c.in-ReMark.ticket c.in-ReMark.state c.in-ReMark.mark refl in
     record {
-      step = step_of c.in-ReMark.is (edit_step a.text.now (L.holds a.labels.now) (L.satisfiable a.labels.now) m (moment b a.target.now a.words.now) (call.ReMark c.in-ReMark.ticket c.in-ReMark.state c.in-ReMark.mark) c.re_mark.result e.leaves d e.keeps (record { target = refl; order = refl; words = refl }) e.says);
+      step = step_of c.in-ReMark.is (edit_step a.text.now (L.holds a.labels.now) (L.satisfiable a.labels.now) m (moment b a.target.now a.words.now) (kept_within b) (call.ReMark c.in-ReMark.ticket c.in-ReMark.state c.in-ReMark.mark) c.re_mark.result e.leaves d e.keeps (record { target = refl; order = refl; words = refl }) e.says e.keeps e.says);
       held = held_edited (view a.book.now) _ (view b) a.held e.leaves d c.requires;
+      ticket = sym (ap (ticket_by (view a.book.now) (is_some a.held)) c.in-ReMark.is);
       lent = e.lent;
       aimed = refl;
     }
@@ -58,8 +62,9 @@ returns-in-AddArrow g c =
     let b = c.add_arrow.new.book in
     let d = arrow_added (view a.book.now) _ c.in-AddArrow.ticket c.in-AddArrow.source c.in-AddArrow.label c.in-AddArrow.target (L.satisfiable a.labels.now c.in-AddArrow.label) refl in
     record {
-      step = step_of c.in-AddArrow.is (edit_step a.text.now (L.holds a.labels.now) (L.satisfiable a.labels.now) m (moment b a.target.now a.words.now) (call.AddArrow c.in-AddArrow.ticket c.in-AddArrow.source c.in-AddArrow.label c.in-AddArrow.target) c.add_arrow.result e.leaves d e.keeps (record { target = refl; order = refl; words = refl }) e.says);
+      step = step_of c.in-AddArrow.is (edit_step a.text.now (L.holds a.labels.now) (L.satisfiable a.labels.now) m (moment b a.target.now a.words.now) (kept_within b) (call.AddArrow c.in-AddArrow.ticket c.in-AddArrow.source c.in-AddArrow.label c.in-AddArrow.target) c.add_arrow.result e.leaves d e.keeps (record { target = refl; order = refl; words = refl }) e.says e.keeps e.says);
       held = held_edited (view a.book.now) _ (view b) a.held e.leaves d c.requires;
+      ticket = sym (ap (ticket_by (view a.book.now) (is_some a.held)) c.in-AddArrow.is);
       lent = e.lent;
       aimed = refl;
     }
@@ -73,8 +78,9 @@ returns-in-Strike g c =
     let b = c.strike.new.book in
     let d = struck (view a.book.now) _ c.in-Strike.ticket c.in-Strike.place refl in
     record {
-      step = step_of c.in-Strike.is (edit_step a.text.now (L.holds a.labels.now) (L.satisfiable a.labels.now) m (moment b a.target.now a.words.now) (call.Strike c.in-Strike.ticket c.in-Strike.place) c.strike.result e.leaves d e.keeps (record { target = refl; order = refl; words = refl }) e.says);
+      step = step_of c.in-Strike.is (edit_step a.text.now (L.holds a.labels.now) (L.satisfiable a.labels.now) m (moment b a.target.now a.words.now) (kept_within b) (call.Strike c.in-Strike.ticket c.in-Strike.place) c.strike.result e.leaves d e.keeps (record { target = refl; order = refl; words = refl }) e.says e.keeps e.says);
       held = held_edited (view a.book.now) _ (view b) a.held e.leaves d c.requires;
+      ticket = sym (ap (ticket_by (view a.book.now) (is_some a.held)) c.in-Strike.is);
       lent = e.lent;
       aimed = refl;
     }
@@ -86,8 +92,9 @@ returns-in-Settle g c =
     let m = moment a.book.now a.target.now a.words.now in
     let e = c.settle.ensures in
     record {
-      step = step_of c.in-Settle.is (settle_step a.text.now (L.holds a.labels.now) (L.satisfiable a.labels.now) m (moment c.settle.new.book a.target.now a.words.now) c.in-Settle.ticket c.settle.result.0 e.says e.leaves (record { target = refl; order = refl; words = refl }));
+      step = step_of c.in-Settle.is (settle_step a.text.now (L.holds a.labels.now) (L.satisfiable a.labels.now) m (moment c.settle.new.book a.target.now a.words.now) (kept_within c.settle.new.book) c.in-Settle.ticket c.settle.result.0 e.says e.leaves (record { target = refl; order = refl; words = refl }));
       held = e.held;
+      ticket = e.ticket ∙ sym (ap (ticket_by (view a.book.now) (is_some a.held)) c.in-Settle.is);
       lent = e.lent;
       aimed = refl;
     }
@@ -98,8 +105,9 @@ returns-in-Ask g c =
     let a = c.args in
     let m = moment a.book.now a.target.now a.words.now in
     record {
-      step = step_of c.in-Ask.is (ask_step a.text.now (L.holds a.labels.now) (L.satisfiable a.labels.now) m m c.in-Ask.lower c.in-Ask.upper c.ask.result c.ask.ensures refl refl (record { target = refl; order = refl; words = refl }));
+      step = step_of c.in-Ask.is (ask_step a.text.now (L.holds a.labels.now) (L.satisfiable a.labels.now) m m (kept_within a.book.now) c.in-Ask.lower c.in-Ask.upper c.ask.result c.ask.ensures refl refl (record { target = refl; order = refl; words = refl }));
       held = c.requires;
+      ticket = sym (ap (ticket_by (view a.book.now) (is_some a.held)) c.in-Ask.is);
       lent = refl;
       aimed = refl;
     }
@@ -111,8 +119,9 @@ returns-in-CopyRows g c =
     let m = moment a.book.now a.target.now a.words.now in
     let e = c.copy_rows.ensures in
     record {
-      step = step_of c.in-CopyRows.is (copy_step a.text.now (L.holds a.labels.now) (L.satisfiable a.labels.now) m (moment a.book.now a.target.now c.copy_rows.new.words) c.in-CopyRows.from c.in-CopyRows.to c.copy_rows.result e.says refl refl (record { target = refl; order = refl; words = e.copies }));
+      step = step_of c.in-CopyRows.is (copy_step a.text.now (L.holds a.labels.now) (L.satisfiable a.labels.now) m (moment a.book.now a.target.now c.copy_rows.new.words) (kept_within a.book.now) c.in-CopyRows.from c.in-CopyRows.to c.copy_rows.result e.says refl refl (record { target = refl; order = refl; words = e.copies }));
       held = c.requires;
+      ticket = sym (ap (ticket_by (view a.book.now) (is_some a.held)) c.in-CopyRows.is);
       lent = refl;
       aimed = refl;
     }
@@ -123,8 +132,9 @@ returns-in-TestWord g c =
     let a = c.args in
     let m = moment a.book.now a.target.now a.words.now in
     record {
-      step = step_of c.in-TestWord.is (word_step a.text.now (L.holds a.labels.now) (L.satisfiable a.labels.now) m m c.in-TestWord.from c.in-TestWord.to c.test_word-accepted.result (rw c.part_of.ensures at c.test_word-accepted.ensures) refl refl (record { target = refl; order = refl; words = refl }));
+      step = step_of c.in-TestWord.is (word_step a.text.now (L.holds a.labels.now) (L.satisfiable a.labels.now) m m (kept_within a.book.now) c.in-TestWord.from c.in-TestWord.to c.test_word-accepted.result (rw c.part_of.ensures at c.test_word-accepted.ensures) refl refl (record { target = refl; order = refl; words = refl }));
       held = c.requires;
+      ticket = sym (ap (ticket_by (view a.book.now) (is_some a.held)) c.in-TestWord.is);
       lent = refl;
       aimed = refl;
     }
@@ -135,8 +145,9 @@ returns-in-Reduce g c =
     let a = c.args in
     let m = moment a.book.now a.target.now a.words.now in
     record {
-      step = step_of c.in-Reduce.is (reduce_step a.text.now (L.holds a.labels.now) (L.satisfiable a.labels.now) m (moment a.book.now c.reduce.new.target a.words.now) c.reduce.result c.reduce.ensures.says refl refl refl);
+      step = step_of c.in-Reduce.is (reduce_step a.text.now (L.holds a.labels.now) (L.satisfiable a.labels.now) m (moment a.book.now c.reduce.new.target a.words.now) (kept_within a.book.now) c.reduce.result c.reduce.ensures.says refl refl refl);
       held = c.requires;
+      ticket = sym (ap (ticket_by (view a.book.now) (is_some a.held)) c.in-Reduce.is);
       lent = refl;
       aimed = c.reduce.ensures.lent;
     }

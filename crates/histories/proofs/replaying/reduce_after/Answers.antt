@@ -16,7 +16,10 @@ returns g c =
       says = e.says;
       history = h.0;
       reduced = h.1;
+      leaves = p.ensures.step.book ∙ e.leaves;
+      beyond = e.beyond;
       held = p.ensures.held;
+      ticket = p.ensures.ticket ∙ e.ticket;
       lent = p.ensures.lent ∙ e.lent;
       aimed = p.ensures.aimed ∙ e.aimed;
     }

@@ -14,6 +14,7 @@ returns-in-Ok g c =
       history = e.history;
       beyond = e.beyond;
       held = e.held;
+      ticket = e.ticket;
       lent = e.lent;
       aimed = e.aimed;
     }
