@@ -81,7 +81,7 @@ count_less f g (suc n) d i h t off = go (λ l. count_less f g n d (λ k h. i k (
     go r (inl e) = omega (arith, count_le f g n (λ k h. i k (omega arith)), less (f n) (g n) (subst (λ (x : ℕ). T (g x)) e t) (λ u. off (subst (λ (x : ℕ). T (f x)) (sym e) u)))
     go r (inr ne) = omega (arith, r (omega arith), one_le (f n) (g n) (i n (omega arith)))
 
-count_most : (f : ℕ → Bool) (n : ℕ) → count f n ≤ n
+pub count_most : (f : ℕ → Bool) (n : ℕ) → count f n ≤ n
 unfolding sum_to
 count_most f zero = zero-le
 count_most f (suc n) = omega (arith, count_most f n, one_le (f n) true (λ _. tt))

@@ -13,7 +13,7 @@ use Rattle.automata.specs.Reduction.{reached, Pruned, Tells, staying, class, Red
 use Rattle.automata.specs.Book.{ends, ReducedBook, SameBook}
 use Rattle.automata.specs.Minimal.{Alike, Equivalent, Reduced, Least, Minimal}
 use Rattle.automata.specs.Theorems.{Books}
-use Rattle.automata.proofs.Tests.{TSame, forth, back}
+use Rattle.automata.proofs.Tests.{T_same, forth, back}
 use Rattle.automata.proofs.Words.{inclusion}
 use Rattle.automata.proofs.Simulations.{simulated_trans}
 use Rattle.automata.proofs.Alike.{turned, alike_simulated, reduced_alike}
@@ -59,7 +59,7 @@ module _ {P V : Type 0} (holds : P → V → Bool) (M : Automaton V) (K : ℕ �
   label_at x m i a j es et = all_mem _ x arrows b.labelled m a ∙ ap (λ (y : ℕ). (Reduction M K linked).reads y a x.target) es ∙ ap (λ (y : ℕ). (Reduction M K linked).reads i a y) et
 
   reads : (i : ℕ) (a : V) (j : ℕ) → i < k → j < k → A.reads i a j ≡ (Reduction M K linked).reads i a j
-  reads i a j hi hj = TSame (some_label holds (leads i j) arrows a) ((Reduction M K linked).reads i a j) there again
+  reads i a j hi hj = T_same (some_label holds (leads i j) arrows a) ((Reduction M K linked).reads i a j) there again
     where
       there : T (some_label holds (leads i j) arrows a) → T ((Reduction M K linked).reads i a j)
       there t =
@@ -93,50 +93,50 @@ module _ {P V : Type 0} (holds : P → V → Bool) (M : Automaton V) (K : ℕ �
   reduced : Greatest M K → Reduced A L
   reduced g = reduced_alike A (Reduction M K linked) L (reduced_kept M K linked) alike b.kept (reduces V M K linked g b.told)
 
-  drawn-length : length arrows ≡ length (reduced_ends M K linked)
-  drawn-length = sym (length-map arrows _) ∙ ap length b.drawn
+  drawn_length : length arrows ≡ length (reduced_ends M K linked)
+  drawn_length = sym (length-map arrows _) ∙ ap length b.drawn
 
   least : Greatest M K → Least M (length marks) (length arrows)
   least g N s r =
       let f = fewest V M K linked g b.told N s r in
       record {
         states = omega (arith, size, f.states);
-        listed = (f.listed.0, f.listed.1, f.listed.2 ∙ sym drawn-length);
-        counted = λ l t. omega (arith, drawn-length, f.counted l t);
+        listed = (f.listed.0, f.listed.1, f.listed.2 ∙ sym drawn_length);
+        counted = λ l t. omega (arith, drawn_length, f.counted l t);
       }
 
   minimal : Greatest M K → Minimal M A L (length arrows)
   minimal g = record { equivalent = equivalent g; reduced = reduced g; least = least g }
 
 -- tests that agree below n list the same
-rising-same : (f g : ℕ → Bool) (n : ℕ) → ((k : ℕ) → k < n → f k ≡ g k) → rising f n ≡ rising g n
+pub rising_same : (f g : ℕ → Bool) (n : ℕ) → ((k : ℕ) → k < n → f k ≡ g k) → rising f n ≡ rising g n
 unfolding rising
-rising-same f g zero e = refl
-rising-same f g (suc n) e = rw (e n (omega arith), rising-same f g n (λ k h. e k (omega arith)))
+rising_same f g zero e = refl
+rising_same f g (suc n) e = rw (e n (omega arith), rising_same f g n (λ k h. e k (omega arith)))
 
 rows_same : (R S : ℕ → ℕ → Bool) (n m : ℕ) → ((p q : ℕ) → p < m → q < n → R p q ≡ S p q) → rows R n m ≡ rows S n m
 unfolding rows
 rows_same R S n zero e = refl
-rows_same R S n (suc m) e = rw (rising-same (R m) (S m) n (λ q h. e m q (omega arith) h), rows_same R S n m (λ p q h. e p q (omega arith)))
+rows_same R S n (suc m) e = rw (rising_same (R m) (S m) n (λ q h. e m q (omega arith) h), rows_same R S n m (λ p q h. e p q (omega arith)))
 
 module _ {V : Type 0} (M : Automaton V) (K l l' : ℕ → ℕ → Bool) (t : Tells M K l) (t' : Tells M K l') where
   -- by either test the same can be reached
-  reached-same : (d : ℕ) → d < M.size → reached M.size l (Pruned M K).initial M.size d ≡ reached M.size l' (Pruned M K).initial M.size d
-  reached-same d h = TSame _ _ (λ x. is_reached (Pruned M K) l' t' (reached_is (Pruned M K) l t d h x)) (λ x. is_reached (Pruned M K) l t (reached_is (Pruned M K) l' t' d h x))
+  reached_same : (d : ℕ) → d < M.size → reached M.size l (Pruned M K).initial M.size d ≡ reached M.size l' (Pruned M K).initial M.size d
+  reached_same d h = T_same _ _ (λ x. is_reached (Pruned M K) l' t' (reached_is (Pruned M K) l t d h x)) (λ x. is_reached (Pruned M K) l t (reached_is (Pruned M K) l' t' d h x))
 
-  staying-same : staying M K l ≡ staying M K l'
-  staying-same = rising-same _ _ M.size reached-same
+  staying_same : staying M K l ≡ staying M K l'
+  staying_same = rising_same _ _ M.size reached_same
 
-  linked-same : (i j : ℕ) → i < length (staying M K l) → j < length (staying M K l) → l (class M K l i) (class M K l j) ≡ l' (class M K l i) (class M K l j)
-  linked-same i j hi hj =
+  linked_same : (i j : ℕ) → i < length (staying M K l) → j < length (staying M K l) → l (class M K l i) (class M K l j) ≡ l' (class M K l i) (class M K l j)
+  linked_same i j hi hj =
       let r = stays M K l t i hi in
       let h = class_here M K l j hj in
-      TSame _ _ (λ x. t'.if _ _ r h (t.so _ _ r h x)) (λ x. t.if _ _ r h (t'.so _ _ r h x))
+      T_same _ _ (λ x. t'.if _ _ r h (t.so _ _ r h x)) (λ x. t.if _ _ r h (t'.so _ _ r h x))
 
   ends_same : reduced_ends M K l ≡ reduced_ends M K l'
   ends_same =
-      rows_same _ (λ i j. l' (class M K l i) (class M K l j)) (length (staying M K l)) (length (staying M K l)) linked-same
-      ∙ ap (λ (s : List ℕ). table (λ i j. l' (get_or s i 0) (get_or s j 0)) (length s)) staying-same
+      rows_same _ (λ i j. l' (class M K l i) (class M K l j)) (length (staying M K l)) (length (staying M K l)) linked_same
+      ∙ ap (λ (s : List ℕ). table (λ i j. l' (get_or s i 0) (get_or s j 0)) (length s)) staying_same
 
 -- labels that mean the same at the same ends
 labels_same : {P V : Type 0} (holds : P → V → Bool) (F G : ℕ → V → ℕ → Bool) → ((i : ℕ) (a : V) (j : ℕ) → F i a j ≡ G i a j) → (xs ys : List (Arrow P)) → ends xs ≡ ends ys
@@ -152,7 +152,7 @@ labels_same holds F G same (x ∷ xs) (y ∷ ys) e f g =
 module _ {P V : Type 0} (holds : P → V → Bool) (M : Automaton V) (K : ℕ → ℕ → Bool) (marks marks' : List Mark) (arrows arrows' : List (Arrow P)) (L L' : ℕ → ℕ → Bool) (b : ReducedBook holds M K marks arrows L) (b' : ReducedBook holds M K marks' arrows' L') where
   sole : SameBook holds marks marks' arrows arrows' L L'
   sole =
-      let stay = staying-same M K b.linked b'.linked b.told b'.told in
+      let stay = staying_same M K b.linked b'.linked b.told b'.told in
       let drawn = b.drawn ∙ ends_same M K b.linked b'.linked b.told b'.told ∙ sym b'.drawn in
       let marked = b.marked ∙ ap (map _) stay ∙ sym b'.marked in
       record {

@@ -6,11 +6,11 @@ use Rattle.automata.specs.Simulation.{Simulation, Simulated, SimulatedBy, Greate
 use Rattle.automata.specs.Reduction.{same, name, below, reached, Merged, Pruned, Tells, staying, class, Reduction, reduced_kept}
 use Rattle.automata.specs.Minimal.{Reduced}
 use Rattle.automata.specs.Theorems.{Steps, Faithful, Reduces}
-use Rattle.automata.proofs.Tests.{or_l, or_r, ways, TSame}
+use Rattle.automata.proofs.Tests.{or_l, or_r, ways, T_same}
 use Rattle.automata.proofs.Below.{rising_at, rising_has, rising_rises}
 use Rattle.automata.proofs.Words.{inclusion}
 use Rattle.automata.proofs.Simulations.{Preorder, preorder, composed, joins}
-use Rattle.automata.proofs.Names.{equal, same_from, same_to, member_from, member_to, below_from, below_to, highest_to, named, name_here, name-least, one_name, name_self}
+use Rattle.automata.proofs.Names.{equal, same_from, same_to, member_from, member_to, below_from, below_to, highest_to, named, name_here, name_least, one_name, name_self}
 use Rattle.automata.proofs.Climb.{climbed}
 use Rattle.automata.proofs.Reach.{reachable_here, reached_is, is_reached}
 use Rattle.automata.proofs.Alike.{alike_itself, reduced_alike}
@@ -82,8 +82,8 @@ module _ {V : Type 0} (M : Automaton V) (K linked : ℕ → ℕ → Bool) where
     under_name : {p c : ℕ} → p < M.size → name K p ≡ c → T (K p c)
     under_name {p} h e = subst (λ (x : ℕ). T (K p x)) e (named K M.size pre p h).0
 
-    over-name : {p c : ℕ} → p < M.size → name K p ≡ c → T (K c p)
-    over-name {p} h e = subst (λ (x : ℕ). T (K x p)) e (named K M.size pre p h).1
+    over_name : {p c : ℕ} → p < M.size → name K p ≡ c → T (K c p)
+    over_name {p} h e = subst (λ (x : ℕ). T (K x p)) e (named K M.size pre p h).1
 
     own_name : {c : ℕ} → Class c → name K c ≡ c
     own_name x = subst (λ (y : ℕ). name K y ≡ y) x.2 (name_self K M.size pre x.0 x.1)
@@ -131,9 +131,9 @@ module _ {V : Type 0} (M : Automaton V) (K linked : ℕ → ℕ → Bool) where
         follows = λ {p = i} hi hp x {a} {p' = j} hj t.
             let r = reads_to (f i) a (f j) (highest_to K _ _ (f j) t).0 in
             let q = g.simulation.follows r.from_here hp (trans r.from_here (inside hi) hp (under_name r.from_here r.from_named) x) r.to_here r.read in
-            record { to = q.to; here = q.here; read = q.read; kept = trans (inside hj) r.to_here q.here (over-name r.to_here r.to_named) q.kept };
+            record { to = q.to; here = q.here; read = q.read; kept = trans (inside hj) r.to_here q.here (over_name r.to_here r.to_named) q.kept };
       };
-      starts = λ {p = i} hi t. let m = member_to K M.size _ (f i) (highest_to K _ _ (f i) t).0 in (m.0, m.1, m.3, over-name m.1 m.2);
+      starts = λ {p = i} hi t. let m = member_to K M.size _ (f i) (highest_to K _ _ (f i) t).0 in (m.0, m.1, m.3, over_name m.1 m.2);
     }
 
     -- down to M and up again
@@ -168,7 +168,7 @@ module _ {V : Type 0} (M : Automaton V) (K linked : ℕ → ℕ → Bool) where
 
     -- step 3's order and p, p
     order : (i j : ℕ) → i < k → j < k → reduced_kept M K linked i j ≡ K (f i) (f j)
-    order i j hi hj = TSame (reduced_kept M K linked i j) (K (f i) (f j)) there again
+    order i j hi hj = T_same (reduced_kept M K linked i j) (K (f i) (f j)) there again
       where
         there : T (eqb i j || below K (f i) (f j)) → T (K (f i) (f j))
         there t = ⊎_elim (λ e. subst (λ (x : ℕ). T (K (f i) (f x))) (eqb→eq i j e) (self (inside hi))) (λ u. (below_to K (f i) (f j) u).1) (ways (eqb i j) (below K (f i) (f j)) t)
@@ -187,10 +187,10 @@ reduces V M K linked g told = reduced_alike (Reduction M K linked) (Reduction M 
 
 pub steps : (V : Type 0) → Steps V
 steps V = record {
-  named = λ M K g p h. let pre = preorder M K g in let k = named K M.size pre p h in (same_from K p (name K p) k.0 k.1, λ q hq t. name-least K M.size pre p q t);
+  named = λ M K g p h. let pre = preorder M K g in let k = named K M.size pre p h in (same_from K p (name K p) k.0 k.1, λ q hq t. name_least K M.size pre p q t);
   classes = λ M K g p q hp hq.
       let pre = preorder M K g in
-      TSame (same K p q) (eqb (name K p) (name K q))
+      T_same (same K p q) (eqb (name K p) (name K q))
       (λ t. let s = same_to K p q t in equal (name K p) (name K q) (one_name K M.size pre p q hp hq s.0 s.1))
       (λ t. let e = eqb→eq (name K p) (name K q) t in
       let h = name_here K M.size pre q hq in

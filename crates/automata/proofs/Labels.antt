@@ -9,7 +9,7 @@ use Rattle.automata.specs.Automata.{automaton, some_label, leads, Within}
 use Rattle.automata.specs.Reduction.{name, below, highest, Merged, Pruned, Tells}
 use Rattle.automata.specs.Labels.{Algebra, Lawful, between, over, joined, merged_label, pruned_label}
 use Rattle.automata.specs.Theorems.{Labelled}
-use Rattle.automata.proofs.Tests.{both, parts, or_l, or_r, ways, TSame, forth, back}
+use Rattle.automata.proofs.Tests.{both, parts, or_l, or_r, ways, T_same, forth, back}
 use Rattle.automata.proofs.Below.{found, finds}
 use Rattle.automata.proofs.Names.{equal, name_le, member_from, member_to}
 
@@ -34,11 +34,11 @@ module _ {P V : Type 0} (h : P → V → Bool) (f : Arrow P → Bool) (a : V) wh
   label_finds x (y ∷ xs) (Memᴰ.tail m) u v = or_r (f y && h y.label a) (some_label h f xs a) (label_finds x xs m u v)
 
 module _ {P : Type 0} (K : ℕ → ℕ → Bool) (c d : ℕ) (x : Arrow P) where
-  between_from : name K x.source ≡ c → name K x.target ≡ d → T (between K c d x)
+  pub between_from : name K x.source ≡ c → name K x.target ≡ d → T (between K c d x)
   unfolding between
   between_from e u = both _ _ (equal (name K x.source) c e) (equal (name K x.target) d u)
 
-  between_to : T (between K c d x) → (name K x.source ≡ c) × (name K x.target ≡ d)
+  pub between_to : T (between K c d x) → (name K x.source ≡ c) × (name K x.target ≡ d)
   unfolding between
   between_to t = let k = parts _ _ t in (eqb→eq (name K x.source) c k.0, eqb→eq (name K x.target) d k.1)
 
@@ -59,7 +59,7 @@ leads_to p q x t = let k = parts (eqb x.source p) (eqb x.target q) t in (eqb→e
 -- what is joined over the arrows of a class is what the class reads
 module _ {P V : Type 0} (h : P → V → Bool) (marks : List Mark) (arrows : List (Arrow P)) (K : ℕ → ℕ → Bool) (within : AllByRecursion (Within (length marks)) arrows) where
   pub merged_is : (c d : ℕ) (a : V) → some_label h (between K c d) arrows a ≡ (Merged (automaton h marks arrows) K).reads c a d
-  merged_is c d a = TSame (some_label h (between K c d) arrows a) ((Merged (automaton h marks arrows) K).reads c a d) there again
+  merged_is c d a = T_same (some_label h (between K c d) arrows a) ((Merged (automaton h marks arrows) K).reads c a d) there again
     where
       there : T (some_label h (between K c d) arrows a) → T ((Merged (automaton h marks arrows) K).reads c a d)
       there t =
@@ -78,7 +78,7 @@ module _ {P V : Type 0} (h : P → V → Bool) (marks : List Mark) (arrows : Lis
           label_finds h (between K c d) a r.0 arrows r.1 (between_from K c d r.0 (ap (name K) e.0 ∙ m.2) (ap (name K) e.1 ∙ k.2)) r.3
 
   pub over_is : (c d : ℕ) (a : V) → some_label h (over K c d) arrows a ≡ any_below (length marks) (λ e. (Merged (automaton h marks arrows) K).reads c a e && below K d e)
-  over_is c d a = TSame (some_label h (over K c d) arrows a) (any_below (length marks) (λ e. (Merged (automaton h marks arrows) K).reads c a e && below K d e)) there again
+  over_is c d a = T_same (some_label h (over K c d) arrows a) (any_below (length marks) (λ e. (Merged (automaton h marks arrows) K).reads c a e && below K d e)) there again
     where
       there : T (some_label h (over K c d) arrows a) → T (any_below (length marks) (λ e. (Merged (automaton h marks arrows) K).reads c a e && below K d e))
       there t =

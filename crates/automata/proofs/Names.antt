@@ -72,14 +72,14 @@ module _ (K : ℕ → ℕ → Bool) where
     name_here p h = omega (arith, name_le p)
 
     -- the name is the least of what is kept both ways with p
-    pub name-least : (p q : ℕ) → T (same K p q) → name K p ≤ q
-    name-least p q t = ⊎_elim (λ h. absurd (name_none p q h t)) (λ h. h) (cases_lt q (name K p))
+    pub name_least : (p q : ℕ) → T (same K p q) → name K p ≤ q
+    name_least p q t = ⊎_elim (λ h. absurd (name_none p q h t)) (λ h. h) (cases_lt q (name K p))
 
     lower : (p q : ℕ) → p < n → q < n → T (K p q) → T (K q p) → name K p ≤ name K q
     lower p q hp hq x y =
         let k = named q hq in
         let h = name_here q hq in
-        name-least p (name K q) (same_from p (name K q) (trans hp hq h x k.0) (trans h hq hp k.1 y))
+        name_least p (name K q) (same_from p (name K q) (trans hp hq h x k.0) (trans h hq hp k.1 y))
 
     pub one_name : (p q : ℕ) → p < n → q < n → T (K p q) → T (K q p) → name K p ≡ name K q
     one_name p q hp hq x y = omega (arith, lower p q hp hq x y, lower q p hq hp y x)

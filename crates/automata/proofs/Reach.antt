@@ -45,7 +45,7 @@ module _ (n : ℕ) (l : ℕ → ℕ → Bool) (g : ℕ → Bool) where
           let s = parts _ _ k.2 in
           let less = count_less (G m) (G (suc m)) n k.0 (λ d _. later m d) k.1 s.0 (T_not _ s.1) in
           inr (omega arith)
-      go h (inr off) = inl (closed_more m (λ d hd t. unless (G m d) (λ not-d. off (finds _ _ d hd (both _ _ t (not_T _ not-d))))))
+      go h (inr off) = inl (closed_more m (λ d hd t. unless (G m d) (λ not_d. off (finds _ _ d hd (both _ _ t (not_T _ not_d))))))
 
   closed : Closed n
   closed = ⊎_elim (λ k. k) (λ full d h t. count_full (G n) n d full h) (grows n)

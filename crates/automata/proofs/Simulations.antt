@@ -4,7 +4,7 @@ use lib.Dec.{eqb_refl}
 use Rattle.automata.specs.Automata.{Automaton}
 use Rattle.automata.specs.Simulation.{Simulation, Simulated, Greatest, Keeps, through}
 use Rattle.automata.specs.Theorems.{Simulations}
-use Rattle.automata.proofs.Tests.{both, parts, TSame}
+use Rattle.automata.proofs.Tests.{both, parts, T_same}
 use Rattle.automata.proofs.Below.{found, finds}
 
 pub joins : (n : ℕ) (R S : ℕ → ℕ → Bool) (p r : ℕ) {q : ℕ} → q < n → T (R p q) → T (S q r) → T (through n R S p r)
@@ -51,7 +51,7 @@ module _ {V : Type 0} where
   )
 
   one : (M : Automaton V) (K L : ℕ → ℕ → Bool) → Greatest M K → Greatest M L → (p q : ℕ) → p < M.size → q < M.size → K p q ≡ L p q
-  one M K L g h p q hp hq = TSame (K p q) (L p q) (h.contains K g.simulation p q hp hq) (g.contains L h.simulation p q hp hq)
+  one M K L g h p q hp hq = T_same (K p q) (L p q) (h.contains K g.simulation p q hp hq) (g.contains L h.simulation p q hp hq)
 
   -- all simulations together are one
   together : (M : Automaton V) (K : ℕ → ℕ → Bool) → Keeps M K → Greatest M K

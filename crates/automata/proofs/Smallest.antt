@@ -11,8 +11,8 @@ use Rattle.automata.proofs.Pigeons.{pigeons}
 module _ {V : Type 0} (A B : Automaton V) (K : ℕ → ℕ → Bool) (red : Reduced A K) (S : ℕ → ℕ → Bool) (s : SimulatedBy A B S) (R : ℕ → ℕ → Bool) (r : SimulatedBy B A R) where
   -- p of A and b of B simulate one another
   record Twin (p b : ℕ) : Type 0 where
-    in-A : p < A.size
-    in-B : b < B.size
+    in_A : p < A.size
+    in_B : b < B.size
     up : T (S p b)
     down : T (R b p)
 
@@ -22,20 +22,20 @@ module _ {V : Type 0} (A B : Automaton V) (K : ℕ → ℕ → Bool) (red : Redu
 
   -- no two states have one twin
   one : {p q b : ℕ} → Twin p b → Twin q b → p ≡ q
-  one x y = red.apart x.in-A y.in-A (round x.in-A x.in-B y.in-A x.up y.down) (round y.in-A y.in-B x.in-A y.up x.down)
+  one x y = red.apart x.in_A y.in_A (round x.in_A x.in_B y.in_A x.up y.down) (round y.in_A y.in_B x.in_A y.up x.down)
 
   -- b is over p and under q, and nothing but p itself is over p
   twins : {p b q : ℕ} → p < A.size → b < B.size → q < A.size → T (S p b) → T (R b q) → (T (K p q) → p ≡ q) → Twin p b
   twins {p} {b} {q} hp hb hq x y highest =
       let e = highest (round hp hb hq x y) in
-      record { in-A = hp; in-B = hb; up = x; down = subst (λ (z : ℕ). T (R b z)) (sym e) y }
+      record { in_A = hp; in_B = hb; up = x; down = subst (λ (z : ℕ). T (R b z)) (sym e) y }
 
   -- a twin of p reads what p reads, to a twin of where p reads it
   twin_step : {p b q : ℕ} (a : V) → Twin p b → q < A.size → T (A.reads p a q) → (c : ℕ) × T (B.reads b a c) × Twin q c
   twin_step a t hq x =
-      let f = s.simulation.follows t.in-A t.in-B t.up hq x in
-      let g = r.simulation.follows t.in-B t.in-A t.down f.here f.read in
-      (f.to, f.read, twins hq f.here g.here f.kept g.kept (red.reads a t.in-A hq g.here x g.read))
+      let f = s.simulation.follows t.in_A t.in_B t.up hq x in
+      let g = r.simulation.follows t.in_B t.in_A t.down f.here f.read in
+      (f.to, f.read, twins hq f.here g.here f.kept g.kept (red.reads a t.in_A hq g.here x g.read))
 
   -- every state that is reached has a twin
   twin : {p : ℕ} → Reachable A p → (b : ℕ) × Twin p b
@@ -46,7 +46,7 @@ module _ {V : Type 0} (A B : Automaton V) (K : ℕ → ℕ → Bool) (red : Redu
   twin (step m a h t) = let b = twin m in let c = twin_step a b.1 h t in (c.0, c.2)
 
   pub fewest_states : A.size ≤ B.size
-  fewest_states = pigeons A.size B.size Twin (λ p h. let t = twin (red.reached h) in (t.0, t.1.in-B, t.1)) (λ p q b hp hq x y. one x y)
+  fewest_states = pigeons A.size B.size Twin (λ p h. let t = twin (red.reached h) in (t.0, t.1.in_B, t.1)) (λ p q b hp hq x y. one x y)
 
   -- a link of B between twins of the ends of a link of A
   abbrev Over : ℕ × ℕ → ℕ × ℕ → Type 0
@@ -62,7 +62,7 @@ module _ {V : Type 0} (A B : Automaton V) (K : ℕ → ℕ → Bool) (red : Redu
       let b = twin (red.reached k.0) in
       let c = twin_step k.2.0 b.1 k.1 k.2.1 in
       let rest = over xs h.1 in
-      ((b.0, c.0) ∷ rest.0, ((b.1.in-B, c.2.in-B, (k.2.0, c.1)), rest.1), ((b.1, c.2), rest.2))
+      ((b.0, c.0) ∷ rest.0, ((b.1.in_B, c.2.in_B, (k.2.0, c.1)), rest.1), ((b.1, c.2), rest.2))
 
   single : (x z y w : ℕ × ℕ) → Over x y → Over z w → y ≡ w → x ≡ z
   single x z y w o u e = λ i. (one o.0 (subst (λ (v : ℕ × ℕ). Twin z.0 v.0) (sym e) u.0) i, one o.1 (subst (λ (v : ℕ × ℕ). Twin z.1 v.1) (sym e) u.1) i)

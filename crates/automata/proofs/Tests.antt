@@ -37,11 +37,11 @@ unless true f = tt
 unless false f = f (λ t. t)
 
 -- two tests that pass together are one
-pub TSame : (a b : Bool) → (T a → T b) → (T b → T a) → a ≡ b
-TSame true true f g = refl
-TSame true false f g = absurd (f tt)
-TSame false true f g = absurd (g tt)
-TSame false false f g = refl
+pub T_same : (a b : Bool) → (T a → T b) → (T b → T a) → a ≡ b
+T_same true true f g = refl
+T_same true false f g = absurd (f tt)
+T_same false true f g = absurd (g tt)
+T_same false false f g = refl
 
 pub forth : {a b : Bool} → a ≡ b → T a → T b
 forth e t = subst T e t

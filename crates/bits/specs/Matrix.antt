@@ -1,5 +1,5 @@
 -- A relation on the numbers below 256 as bits: the pair p, q is bit q mod 64 of word 4p + q div 64.
-use Rattle.std.specs.Prelude.{◌≡◌, ℕ, ◌+◌, ◌*◌, ◌/◌, ◌%◌, ◌<◌, Bool, true, false, ◌&&◌, List, ◌≢◌, nat_lt, slice_index}
+use Rattle.std.specs.Prelude.{◌≡◌, ℕ, ◌+◌, ◌*◌, ◌/◌, ◌%◌, Bool, ◌&&◌, List, ◌≢◌, nat_lt, slice_index}
 use Rattle.bits.specs.Bit.{bit}
 
 unfoldable pub pair : List ℕ → ℕ → ℕ → Bool
@@ -9,9 +9,3 @@ pair rows p q = nat_lt q 256 && bit (slice_index rows (4 * p + q / 64)) (q % 64)
 pub record Changed (b : Bool) (old new : List ℕ) (p q : ℕ) : Type 0 where
   pub here : pair new p q ≡ b
   pub others : (i j : ℕ) → (i ≡ p → j ≢ q) → pair new i j ≡ pair old i j
-
--- row 0 has the column n, and none below it
-pub record LowestIn (row : List ℕ) (n : ℕ) : Type 0 where
-  pub small : n < 256
-  pub set : pair row 0 n ≡ true
-  pub below : (k : ℕ) → k < n → pair row 0 k ≡ false

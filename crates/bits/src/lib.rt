@@ -10,7 +10,7 @@ ghost use Rattle.bits.specs.Laws.{WordLaws};
 
 mod matrix;
 
-pub use matrix::{clear, common, is_kept, keep, lowest_in_row, put_word};
+pub use matrix::{clear, is_kept, keep, put_word};
 
 // Whether bit `k` of `word` is set; there is none past 63.
 pub fn is_set(word: u64, k: usize) -> bool

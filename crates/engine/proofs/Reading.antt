@@ -5,7 +5,7 @@ use Rattle.std.specs.List.{HoldsAt, AllByRecursion}
 use Rattle.std.proofs.lemmas.List.{get_or_default}
 use Rattle.automata.specs.declared.Arrow.{Arrow}
 use Rattle.automata.specs.Automata.{some_label, leads}
-use Rattle.automata.proofs.Tests.{TSame, back}
+use Rattle.automata.proofs.Tests.{T_same, back}
 use Rattle.automata.proofs.Labels.{all_mem, label_found, label_finds, leads_from, leads_to}
 
 -- a test that is true passes, and one that passes is true
@@ -13,7 +13,7 @@ pub passes : (b : Bool) → b ≡ true → T b
 passes b e = back e tt
 
 pub passed : (b : Bool) → T b → b ≡ true
-passed b t = TSame b true (λ _. tt) (λ _. t)
+passed b t = T_same b true (λ _. tt) (λ _. t)
 
 -- what holds of an element holds of it whatever the default
 pub at_get_or : {X : Type 0} (P : X → Type 0) (xs : List X) (i : ℕ) (d : X) → i < length xs → P (get_or xs i d) → HoldsAt P xs i

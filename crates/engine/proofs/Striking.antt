@@ -13,7 +13,7 @@ use Rattle.automata.proofs.Simulations.{simulations}
 use Rattle.engine.specs.Sorting.{Segment, sources, targets}
 use Rattle.engine.specs.Columns.{Gathered, Swept, Only, Answered, Met}
 use Rattle.engine.proofs.Sums.{pairs_less}
-use Rattle.engine.proofs.Gathering.{same-pair, changed_fewer}
+use Rattle.engine.proofs.Gathering.{same_pair, changed_fewer}
 use Rattle.engine.proofs.Places.{Placed, placed_more, placed_all, key_at, end_at}
 use Rattle.engine.proofs.Reading.{passes, passed, at_get_or, reads_at, reads_by}
 
@@ -36,7 +36,7 @@ module _ {V : Type 0} (M : Automaton V) where
   swept_more old mid new k p q hp hq was never c w = record {
     count = omega (arith, pairs_less (pair new) (pair mid) M.size p q hp hq c.here was c.others, w.count);
     fewer = λ i j e. w.fewer i j (changed_fewer mid new p q c i j e);
-    wide = λ o R s i j hi hj t. elim (same-pair i j p q) [
+    wide = λ o R s i j hi hj t. elim (same_pair i j p q) [
       | inl x ↦ absurd (never o R s (subst (λ y. T (R y q)) x.0 (subst (λ y. T (R i y)) x.1 t)))
       | inr ne ↦ subst T (sym (c.others i j ne)) (w.wide o R s i j hi hj t)
     ];

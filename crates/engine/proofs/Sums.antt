@@ -2,6 +2,7 @@
 use Rattle.std.proofs.Common.{◌≡◌, ℕ, zero, suc, ◌+◌, ◌*◌, ◌<◌, ◌≤◌, Bool, true, false, cond, refl, ap, inl, inr, add-one, arith}
 use Rattle.std.proofs.lemmas.Bool.{cases_eq}
 use Rattle.automata.specs.Below.{sum_to, count, pairs}
+use Rattle.automata.proofs.Below.{count_most}
 
 pub sum_none : (f : ℕ → ℕ) → 0 ≡ sum_to f 0
 unfolding sum_to
@@ -32,15 +33,6 @@ pairs_less F G n p q hp hq f g others =
     sum_less (λ i. count (F i) n) (λ i. count (G i) n) n p hp
     (sum_less (λ j. cond (F p j) 1 0) (λ j. cond (G p j) 1 0) n q hq (rw (f, g)) (λ j ne. ap (λ b. cond b 1 0) (others p j (λ _. ne))))
     (λ i ne. sum_same (λ j. cond (F i j) 1 0) (λ j. cond (G i j) 1 0) n (λ j _. ap (λ b. cond b 1 0) (others i j (λ e _. ne e))))
-
-one_most : (b : Bool) → cond b 1 0 ≤ 1
-one_most true = omega arith
-one_most false = omega arith
-
-pub count_most : (f : ℕ → Bool) (n : ℕ) → count f n ≤ n
-unfolding sum_to
-count_most f zero = omega arith
-count_most f (suc n) = omega (arith, count_most f n, one_most (f n))
 
 pub sum_most : (f : ℕ → ℕ) (n : ℕ) → ((k : ℕ) → f k ≤ 256) → sum_to f n ≤ 256 * n
 unfolding sum_to

@@ -8,8 +8,9 @@ use Rattle.automata.specs.declared.Mark.{Mark}
 use Rattle.automata.specs.Automata.{Automaton, automaton}
 use Rattle.automata.specs.Below.{count, pairs}
 use Rattle.engine.specs.Columns.{Only, Answered, Woken, Quiet, work}
-use Rattle.engine.proofs.Sums.{sum_less, count_most}
+use Rattle.engine.proofs.Sums.{sum_less}
 use Rattle.engine.proofs.Reading.{reads_by}
+use Rattle.automata.proofs.Below.{count_most}
 
 pub set_stays : (flags : List Bool) (s k : ℕ) → s < length flags → get_or flags k false ≡ true → get_or (set flags s true) k false ≡ true
 set_stays flags s k lt on = elim (cases_eq k s) [

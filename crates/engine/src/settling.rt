@@ -1,8 +1,7 @@
 // The greatest simulation, by striking out pairs until every pair that is left is answered.
 //
 // A state's column is computed once, and again only after a pair below one of its successors has gone: a flag for each
-// state says whether that is owed. The flags may be served in any order; going up and down the states in turn serves
-// long chains well, whichever way they are numbered.
+// state says whether it has to be. The flags may be served in any order; they are served upwards and downwards in turn.
 
 ghost use Rattle.std.specs.Prelude.{◌≡◌, ℕ, ◌<◌, ◌≤◌, true, false, ◌⊎◌, length, MatchOption, slice_index_or};
 ghost use Rattle.std.specs.List.{AllByRecursion};

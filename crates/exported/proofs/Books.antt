@@ -91,7 +91,7 @@ module _ (M : Automaton ℕ) (K : ℕ → ℕ → Bool) (states number : ℕ) (m
   -- written into the buffers of the caller
   pub made_are : (codes : List ℕ) (rules : List Rule) (rows' : List ℕ) → take (length (take (states - 0) marks)) codes ≡ map code_of (take (states - 0) marks) → take (length (take (number - 0) arrows)) rules ≡ map rule_of (take (number - 0) arrows) → rows' ≡ rows
       → states ≤ length codes → number ≤ length rules → (Greatest M K → Minimal M (automaton bit (take states marks) (take number arrows)) (pair rows) number) → Made M K codes rules rows' states number
-  made_are codes rules rows' wm wr wx room-codes room-rules least =
+  made_are codes rules rows' wm wr wx room_codes room_rules least =
       let cs = first_written code_of states marks codes f.states_fit wm in
       let rs = first_written rule_of number arrows rules number_fits wr in
       let mb = sym (read_back code_of mark_of mark_back (take states marks) (take states codes) cs) in
@@ -102,8 +102,8 @@ module _ (M : Automaton ℕ) (K : ℕ → ℕ → Bool) (states number : ℕ) (m
         book = move (λ y z r. ReducedBook bit M K y z (pair r)) f.book;
         small = subst (AllByRecursion (λ c. c < 4)) (sym cs) (All-map (λ c. c < 4) code_of (take states marks) (all_of (λ m. code_of m < 4) code_small (take states marks)));
         rest = subst (λ r. (p q : ℕ) → (states ≤ p) ⊎ (states ≤ q) → pair r p q ≡ false) (sym wx) f.rest;
-        states_fit = room-codes;
-        arrows_fit = room-rules;
+        states_fit = room_codes;
+        arrows_fit = room_rules;
         least = λ g. move (λ y z r. Minimal M (automaton bit y z) (pair r) number) (least g);
       }
 

@@ -15,7 +15,7 @@ use Rattle.lines.specs.Fields.{Free, fields}
 use Rattle.lines.specs.Numbers.{number_in}
 use Rattle.lines.specs.declared.Fault.{Fault}
 use Rattle.lines.specs.declared.Fault.TheVariants.{Word, Count}
-use Rattle.lines.proofs.Fields.{fields-joined, fields_some, line_joined}
+use Rattle.lines.proofs.Fields.{fields_joined, fields_some, line_joined}
 use Rattle.lines.proofs.Numbers.{free_decimal, number_in_cases, number_in_decimal}
 use Rattle.header.specs.CutLine.{cut_fields_text, cut_line_text, in_first, fault_of_shape, cut_fields, cut_line}
 use Rattle.header.proofs.Reading.{cut_fields_more, cut_fields_number, cut_fields_order, cut_line_shape}
@@ -24,10 +24,10 @@ use Rattle.header.proofs.Reading.{cut_fields_more, cut_fields_number, cut_fields
 pub ok_not_err : {X Y : Type 0} (r : Result X Y) (x : X) (y : Y) → r ≡ Ok x → r ≡ Err y → ⊥
 ok_not_err r x y ok err = let z : ◌≡◌ {A = ℕ} 0 1 = cc in omega arith
 
-cut_fields_text-joined : (cuts : List ℕ) → cut_fields_text cuts ≡ flat_map (λ f. 44 ∷ f) (map decimal cuts)
+cut_fields_text_joined : (cuts : List ℕ) → cut_fields_text cuts ≡ flat_map (λ f. 44 ∷ f) (map decimal cuts)
 unfolding cut_fields_text
-cut_fields_text-joined [] = refl
-cut_fields_text-joined (cut ∷ cuts) = ap (λ t. 44 ∷ (decimal cut ++ t)) (cut_fields_text-joined cuts)
+cut_fields_text_joined [] = refl
+cut_fields_text_joined (cut ∷ cuts) = ap (λ t. 44 ∷ (decimal cut ++ t)) (cut_fields_text_joined cuts)
 
 -- fields that are accepted are the texts of the cuts that they add
 decimals_from_fields : (cuts : List ℕ) (at : ℕ) (more : List (List ℕ)) (all : List ℕ) → cut_fields cuts at more ≡ Ok all → map decimal all ≡ map decimal cuts ++ more
@@ -74,31 +74,31 @@ word_from_shape word count e = by (bytes_eq word (codes "cuts")) refl e
 
 -- a line that is accepted
 text_from_cut_line : (line cuts : List ℕ) → cut_line line ≡ Ok cuts → line ≡ cut_line_text cuts
-text_from_cut_line line cuts e = by-fields (fields line) refl
+text_from_cut_line line cuts e = by_fields (fields line) refl
   where
     by : (word : List ℕ) (more : List (List ℕ)) → fields line ≡ word ∷ more → (o : Option Fault) → o ≡ fault_of_shape word (length (fields line)) → line ≡ cut_line_text cuts
     by word more is (Some f) o = absurd (ok_not_err _ _ _ e (cut_line_shape line word more is _ (Some f) refl o))
     by word more is None o =
         let named : word ≡ codes "cuts" = word_from_shape word (length (fields line)) (sym o) in
         let said : map decimal cuts ≡ more = decimals_from_fields [] 5 more cuts (sym (cut_line_shape line word more is _ None refl o) ∙ e) in
-        line_joined line word more is ∙ ap₂ ◌++◌ named (ap (flat_map (λ f. 44 ∷ f)) (sym said) ∙ sym (cut_fields_text-joined cuts))
+        line_joined line word more is ∙ ap₂ ◌++◌ named (ap (flat_map (λ f. 44 ∷ f)) (sym said) ∙ sym (cut_fields_text_joined cuts))
 
-    by-fields : (fs : List (List ℕ)) → fields line ≡ fs → line ≡ cut_line_text cuts
-    by-fields [] is = absurd (omega (arith, ap length is, fields_some line))
-    by-fields (word ∷ more) is = by word more is (fault_of_shape word (length (fields line))) refl
+    by_fields : (fs : List (List ℕ)) → fields line ≡ fs → line ≡ cut_line_text cuts
+    by_fields [] is = absurd (omega (arith, ap length is, fields_some line))
+    by_fields (word ∷ more) is = by word more is (fault_of_shape word (length (fields line))) refl
 
 -- the line of a rising list
 module _ (cuts : List ℕ) (up : Rising cuts) where
   decimals_free : (b : ℕ) → b < 48 → AllByRecursion (λ cut. Free b (decimal cut)) cuts
   decimals_free b low = All-from_get_or (λ cut. Free b (decimal cut)) cuts 0 (λ i h. free_decimal b (get_or cuts i 0) low (omega (arith, up.high i h)))
 
-  pub cut_line-rising : (line : List ℕ) → line ≡ cut_line_text cuts → cut_line line ≡ Ok cuts
-  cut_line-rising line is =
+  pub cut_line_rising : (line : List ℕ) → line ≡ cut_line_text cuts → cut_line line ≡ Ok cuts
+  cut_line_rising line is =
       let more = map decimal cuts in
       let word : Free 44 (codes "cuts") = search rules in
       let parts : fields line ≡ codes "cuts" ∷ more =
-      ap fields (is ∙ ap (λ t. codes "cuts" ++ t) (cut_fields_text-joined cuts))
-      ∙ fields-joined (codes "cuts") more word (All-map (Free 44) decimal cuts (decimals_free 44 (omega arith))) in
+      ap fields (is ∙ ap (λ t. codes "cuts" ++ t) (cut_fields_text_joined cuts))
+      ∙ fields_joined (codes "cuts") more word (All-map (Free 44) decimal cuts (decimals_free 44 (omega arith))) in
       let few : length (fields line) ≤ 64 = omega (arith, ap length parts, length-map cuts decimal, up.few) in
       cut_line_shape line (codes "cuts") more parts _ None refl (sym (ap (λ t. cond t (Some (Count (in_first 0))) None) (le-ltb 64 (length (fields line)) few)))
       ∙ cut_fields_decimals [] cuts 5 up
@@ -114,4 +114,4 @@ module _ (cuts : List ℕ) (up : Rising cuts) where
 pub read_law : (line : List ℕ) (r : Result Cuts Fault) → MatchResult r (λ c. cut_line line ≡ Ok (cuts_of c)) (λ f. cut_line line ≡ Err f)
     → MatchResult r (λ c. line ≡ cut_line_text (cuts_of c)) (λ f. (cuts : List ℕ) → Rising cuts → line ≡ cut_line_text cuts → ⊥)
 read_law line r says =
-    MatchResult-weaker r says (λ c ok. text_from_cut_line line (cuts_of c) ok) (λ f err cuts up is. ok_not_err _ _ _ (cut_line-rising cuts up line is) err)
+    MatchResult-weaker r says (λ c ok. text_from_cut_line line (cuts_of c) ok) (λ f err cuts up is. ok_not_err _ _ _ (cut_line_rising cuts up line is) err)

@@ -12,7 +12,7 @@ use Rattle.lines.specs.declared.Fault.TheVariants as fault
 use Rattle.lines.specs.declared.Place.{Place}
 use Rattle.lines.proofs.Fields.{fields_comma, fields_free, line_joined, same_parted, split_newline, text_joined}
 use Rattle.header.specs.CutLine.{cut_line_text, cut_line}
-use Rattle.header.proofs.Law.{ok_not_err, cut_line-rising, cut_line_text_free}
+use Rattle.header.proofs.Law.{ok_not_err, cut_line_rising, cut_line_text_free}
 use Rattle.labels.specs.Segments.{Rising}
 use Rattle.labels.specs.declared.sum.Both.{Both}
 use Rattle.written.specs.Texts.{Plain, whole_if, reads_whole}
@@ -41,7 +41,7 @@ line_from_fields text line End is = line_joined line (codes "end") [] is
 -- what was read has as its text the very bytes taken
 module _ {P : Type 0} (text : P → List ℕ) (reads : List ℕ → Option (Reading P))
     (exact : (bytes : List ℕ) (got : Reading P) → reads bytes ≡ Some got → (got.len ≡ length (text got.predicate)) × (bytes ≡ text got.predicate ++ drop got.len bytes)) where
-  text_from_whole : (field : List ℕ) (p : P) → reads_whole reads field ≡ Some p → field ≡ text p
+  pub text_from_whole : (field : List ℕ) (p : P) → reads_whole reads field ≡ Some p → field ≡ text p
   text_from_whole field p e = by (reads field) refl e
     where
       on : (got : Reading P) (t : Bool) → reads field ≡ Some got → eqb got.len (length field) ≡ t → cond t (Some got.predicate) None ≡ Some p → field ≡ text p
@@ -137,9 +137,9 @@ module _ {P : Type 0} {Same : P → P → Type 0} (text : P → List ℕ) (reads
   says_text : (before : List P) (at : Place) (labels : List P) → (all : List P) × (text_says reads before at (labels_text text labels) ≡ Ok all)
   unfolding labels_text
   says_text before at [] =
-      let no-comma : Free 44 (codes "end") = search rules in
+      let no_comma : Free 44 (codes "end") = search rules in
       let no_end : Free 10 (codes "end") = search rules in
-      (before, says_end reads before at (codes "end" ++ (10 ∷ [])) (codes "end") [] (split_newline (codes "end") [] no_end) (sym (ap (line_says reads at) (fields_free (codes "end") no-comma))) refl)
+      (before, says_end reads before at (codes "end" ++ (10 ∷ [])) (codes "end") [] (split_newline (codes "end") [] no_end) (sym (ap (line_says reads at) (fields_free (codes "end") no_comma))) refl)
   says_text before at (p ∷ labels) =
       let line = codes "label," ++ text p in
       let no_end : Free 10 (codes "label,") = search rules in
@@ -177,7 +177,7 @@ module _ (text line rest : List ℕ) (parted : Parted 10 text line rest) where
   pub no_labels : (made : List ℕ) (why : Refusal) → cut_line line ≡ Ok made → ByFault (λ f. (labels : List (Both ℕ ℕ)) → rest ≡ labels_text (styled_text made) labels → ⊥) why → ByFault (λ f. NoList text) why
   no_labels made (refusal.Fault f) says none = λ cuts labels up is.
       let parts = parts_from_text cuts labels up is in
-      let again : cut_line line ≡ Ok cuts = cut_line-rising cuts up line parts.0 in
+      let again : cut_line line ≡ Ok cuts = cut_line_rising cuts up line parts.0 in
       let same : cuts ≡ made = cc in
       none labels (parts.1 ∙ ap (λ cs. labels_text (styled_text cs) labels) same)
   no_labels made refusal.Memory says none = tt

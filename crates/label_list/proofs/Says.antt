@@ -31,12 +31,12 @@ module _ {P : Type 0} (reads : List ℕ → Option (Reading P)) (at : Place) whe
 
   pub end_count : (line word : List ℕ) (o : Option (Bor (List ℕ))) (r : Bor (List ℕ)) → o ≡ Some r → fields line ≡ word ∷ others (option_map (λ x. x.now) o)
       → bytes_eq word (codes "label") ≡ false → bytes_eq word (codes "end") ≡ true → Err (fault.Count at) ≡ line_says reads at (fields line)
-  end_count line word o r is split no_label is-end =
+  end_count line word o r is split no_label is_end =
       by (fields r.now) (fields_some r.now) ∙ sym (ap (line_says reads at) (split ∙ ap (λ x. word ∷ others (option_map (λ x. x.now) x)) is))
     where
       by : (more : List (List ℕ)) → 0 < length more → Err (fault.Count at) ≡ line_says reads at (word ∷ more)
       by [] h = absurd (omega arith)
-      by (other ∷ more) h = rw (no_label, is-end)
+      by (other ∷ more) h = rw (no_label, is_end)
 
 pub rest_shorter : (line word : List ℕ) (o : Option (Bor (List ℕ))) (r : Bor (List ℕ)) → o ≡ Some r → MatchOption o (line ≡ word) (λ x. line ≡ word ++ (44 ∷ x.now))
     → length r.now < length line

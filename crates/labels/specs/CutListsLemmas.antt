@@ -1,7 +1,7 @@
--- The cut list of the code is a rising list, and stays one.
-use Rattle.std.specs.Prelude.{◌≡◌, ℕ, zero, suc, ◌+◌, ◌-◌, ◌%◌, ◌^◌, ◌<◌, ◌≤◌, true, false, cond, leb, ◌⊎◌, List, length, Some, None, Option, MatchOption, ◌≢◌, nat_le, nat_lt, slice_index, slice_index_or, slice_set, refl}
-use Rattle.std.proofs.Common.{sym, ap, ◌∙◌, subst, inl, inr, arith}
-use Rattle.std.proofs.lemmas.List.{get_or-take, get_or_past, get_or-set_same, get_or-set_other, length-take-le}
+-- The cut list of the code is a rising list: its segments, and what may be added to it.
+use Rattle.std.specs.Prelude.{◌≡◌, ℕ, zero, suc, ◌+◌, ◌-◌, ◌%◌, ◌^◌, ◌<◌, ◌≤◌, true, false, cond, leb, ◌⊎◌, length, Some, None, Option, MatchOption, ◌≢◌, nat_le, nat_lt, slice_index, refl}
+use Rattle.std.proofs.Common.{sym, ap, ◌∙◌, inl, inr, arith}
+use Rattle.std.proofs.lemmas.List.{get_or-take, get_or_past, length-take-le}
 use Rattle.std.proofs.lemmas.Bool.{and_from, and_parts, and_right, cases_lt, le-leb, lt-ltb, ltb-true}
 use Rattle.labels.specs.declared.cuts.Cuts.{Cuts}
 use Rattle.bits.specs.Bit.{bit}
@@ -61,31 +61,6 @@ no_point c p none v =
 
 pub last_cut : (c : Cuts) → 0 < c.len → slice_index (cuts_of c) (length (cuts_of c) - 1) ≡ slice_index c.list (c.len - 1)
 last_cut c h = ap (λ n. slice_index (cuts_of c) (n - 1)) (length_cuts c) ∙ get_or_cuts c (c.len - 1) (omega arith)
-
--- one cut more at the end of the first n
-module _ (list : List ℕ) (n cut : ℕ) (has_room : n < length list) where
-  pub each_push : (P : ℕ → Type 0) → ((i : ℕ) → i < n → P (slice_index list i)) → P cut → (i : ℕ) → i < n + 1 → P (slice_index (slice_set list n cut) i)
-  each_push P before here i h = elim (cases_lt i n) [
-    | inl l ↦ subst P (sym (get_or-set_other list n i cut 0 (λ e. omega arith))) (before i l)
-    | inr g ↦
-        let e : n ≡ i = omega arith in
-        subst (λ k. P (slice_index (slice_set list n cut) k)) e (subst P (sym (get_or-set_same list n cut 0 has_room)) here)
-  ]
-
-  pub rises_push : ((i : ℕ) → i + 1 < n → slice_index list i < slice_index list (i + 1)) → (0 < n → slice_index list (n - 1) < cut)
-      → (i : ℕ) → i + 1 < n + 1 → slice_index (slice_set list n cut) i < slice_index (slice_set list n cut) (i + 1)
-  rises_push before last i h =
-      let old : slice_index_or (slice_set list n cut) i 0 ≡ slice_index_or list i 0 = get_or-set_other list n i cut 0 (λ e. omega arith) in
-      elim (cases_lt (i + 1) n) [
-        | inl l ↦
-            let same : slice_index_or (slice_set list n cut) (i + 1) 0 ≡ slice_index_or list (i + 1) 0 = get_or-set_other list n (i + 1) cut 0 (λ e. omega arith) in
-            omega (arith, before i l)
-        | inr g ↦
-            let e : n ≡ i + 1 = omega arith in
-            let new : slice_index_or (slice_set list n cut) (i + 1) 0 ≡ cut = subst (λ k. slice_index (slice_set list n cut) k ≡ cut) e (get_or-set_same list n cut 0 has_room) in
-            let m : n - 1 ≡ i = omega arith in
-            omega (arith, last (omega arith), ap (λ k. slice_index list k) m)
-      ]
 
 pub first_in_cuts : (c : Cuts) (s : ℕ) → (s ≢ 0) → s ≤ c.len
     → Some (slice_index c.list (s - 1)) ≡ cond (nat_le s (length (cuts_of c))) (Some (first_of_segment (cuts_of c) s)) None

@@ -42,10 +42,10 @@ segment_is (x ∷ cuts) c (suc s) h low high =
     ∙ omega arith
 
 module _ (cuts : List ℕ) (r : Rising cuts) where
-  rising-by : (d i : ℕ) → i + d + 1 < length cuts → slice_index cuts i < slice_index cuts (i + d + 1)
-  rising-by zero i l = subst (λ j. slice_index cuts i < slice_index cuts j) (omega arith) (r.rises i (omega arith))
-  rising-by (suc d) i l =
-      let a : slice_index_or cuts i 0 < slice_index_or cuts (i + d + 1) 0 = rising-by d i (omega arith) in
+  rising_by : (d i : ℕ) → i + d + 1 < length cuts → slice_index cuts i < slice_index cuts (i + d + 1)
+  rising_by zero i l = subst (λ j. slice_index cuts i < slice_index cuts j) (omega arith) (r.rises i (omega arith))
+  rising_by (suc d) i l =
+      let a : slice_index_or cuts i 0 < slice_index_or cuts (i + d + 1) 0 = rising_by d i (omega arith) in
       let b : slice_index_or cuts (i + d + 1) 0 < slice_index_or cuts (i + d + 1 + 1) 0 = r.rises (i + d + 1) (omega arith) in
       let e : i + d + 1 + 1 ≡ i + suc d + 1 = omega arith in
       subst (λ j. slice_index cuts i < slice_index cuts j) e (omega arith)
@@ -54,7 +54,7 @@ module _ (cuts : List ℕ) (r : Rising cuts) where
   rising : (i j : ℕ) → i < j → j < length cuts → slice_index cuts i < slice_index cuts j
   rising i j l m =
       let e : i + (j - i - 1) + 1 ≡ j = omega arith in
-      subst (λ k. slice_index cuts i < slice_index cuts k) e (rising-by (j - i - 1) i (omega arith))
+      subst (λ k. slice_index cuts i < slice_index cuts k) e (rising_by (j - i - 1) i (omega arith))
 
   pub segment_first : (s : ℕ) → s ≤ length cuts → segment cuts (first_of_segment cuts s) ≡ s
   segment_first zero h = segment_is cuts 0 0 h (λ i l. absurd (omega arith)) (λ i a b. r.low i b)

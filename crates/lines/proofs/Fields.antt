@@ -17,9 +17,9 @@ fields_comma [] b h = refl
 fields_comma (x ∷ xs) b h = rw (ne_eqb x 44 h.0, fields_comma xs b h.1)
 
 -- fields that are joined by commas
-pub fields-joined : (a : List ℕ) (more : List (List ℕ)) → Free 44 a → AllByRecursion (Free 44) more → fields (a ++ flat_map (λ f. 44 ∷ f) more) ≡ a ∷ more
-fields-joined a [] h all = ap fields (append-nil a) ∙ fields_free a h
-fields-joined a (f ∷ more) h all = fields_comma a (f ++ flat_map (λ f. 44 ∷ f) more) h ∙ ap (λ fs. a ∷ fs) (fields-joined f more all.0 all.1)
+pub fields_joined : (a : List ℕ) (more : List (List ℕ)) → Free 44 a → AllByRecursion (Free 44) more → fields (a ++ flat_map (λ f. 44 ∷ f) more) ≡ a ∷ more
+fields_joined a [] h all = ap fields (append-nil a) ∙ fields_free a h
+fields_joined a (f ∷ more) h all = fields_comma a (f ++ flat_map (λ f. 44 ∷ f) more) h ∙ ap (λ fs. a ∷ fs) (fields_joined f more all.0 all.1)
 
 length-onto : (x : ℕ) (fs : List (List ℕ)) → 0 < length fs → length (onto x fs) ≡ length fs
 length-onto x [] h = absurd (omega arith)
@@ -122,9 +122,9 @@ parted_at b i t h e free =
       free = rw sub-zero free;
     }
 
-length_fields : (x : ℕ) (xs : List ℕ) → length (fields (x ∷ xs)) ≡ cond (eqb x 44) 1 0 + length (fields xs)
+length-fields : (x : ℕ) (xs : List ℕ) → length (fields (x ∷ xs)) ≡ cond (eqb x 44) 1 0 + length (fields xs)
 unfolding fields
-length_fields x xs =
+length-fields x xs =
     cond_both (eqb x 44) ([] ∷ fields xs) (onto x (fields xs)) (λ l. length l ≡ cond (eqb x 44) 1 0 + length (fields xs))
     (λ e. rw e (omega arith))
     (λ e. rw e (omega (arith, length-onto x (fields xs) (fields_some xs))))
@@ -132,7 +132,7 @@ length_fields x xs =
 -- how many fields are left, one byte on
 pub length-fields_more : (t : List ℕ) (i : ℕ) → i < length t →
     length (fields (drop i t)) ≡ cond (eqb (get_or t i 0) 44) 1 0 + length (fields (drop (i + 1) t))
-length-fields_more t i h = at_drop_more (λ u. length (fields u)) t i 0 h ∙ length_fields (get_or t i 0) (drop (i + 1) t)
+length-fields_more t i h = at_drop_more (λ u. length (fields u)) t i 0 h ∙ length-fields (get_or t i 0) (drop (i + 1) t)
 
 -- at the line's end one field is left
 pub length-fields_all : (t : List ℕ) (i : ℕ) → length t ≤ i → length (fields (drop i t)) ≡ 1

@@ -98,14 +98,14 @@ pub number_in_decimal : (most n : ℕ) → n ≤ most → n < 2 ^ 64 → number_
 unfolding number_in
 number_in_decimal most n h small = rw (plain_decimal n small, (decimal_is_IsNumeral n small).1, le-leb n most h)
 
-when_true_some : (b : Bool) (v n : ℕ) → then_some b v ≡ Some n → (b ≡ true) × (v ≡ n)
-when_true_some true v n e = (refl, cc)
-when_true_some false v n e = let z : ◌≡◌ {A = ℕ} 0 1 = cc in absurd (omega arith)
+then_some-cases : (b : Bool) (v n : ℕ) → then_some b v ≡ Some n → (b ≡ true) × (v ≡ n)
+then_some-cases true v n e = (refl, cc)
+then_some-cases false v n e = let z : ◌≡◌ {A = ℕ} 0 1 = cc in absurd (omega arith)
 
 number_in_some : (most : ℕ) (f : List ℕ) (n : ℕ) → most < 2 ^ 64 → number_in most f ≡ Some n → (n ≤ most) × (f ≡ decimal n)
 unfolding number_in
 number_in_some most f n small e =
-    let w = when_true_some (plain f && leb (digits_value 10 f) most) (digits_value 10 f) n e in
+    let w = then_some-cases (plain f && leb (digits_value 10 f) most) (digits_value 10 f) n e in
     let p = and_parts (plain f) (leb (digits_value 10 f) most) w.0 in
     let q = plain_parts f p.0 in
     let low = leb-true (digits_value 10 f) most p.1 in

@@ -15,8 +15,8 @@ moved word from k fits h =
     let e : k - from + from ≡ k = omega arith in
     bit_right word from (k - from) fits ∙ ap (bit word) e
 
-pub next-set : (word from n : ℕ) → word < 2 ^ 64 → Lowest (word / 2 ^ from) n → Next (bit word) from (from + n)
-next-set word from n fits l =
+pub next_set_is : (word from n : ℕ) → word < 2 ^ 64 → Lowest (word / 2 ^ from) n → Next (bit word) from (from + n)
+next_set_is word from n fits l =
     let e : from + n - from ≡ n = omega arith in
     record {
       low = omega arith;

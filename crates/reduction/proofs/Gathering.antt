@@ -10,9 +10,9 @@ use Rattle.automata.specs.declared.Mark.{Mark}
 use Rattle.automata.specs.Automata.{automaton, some_label, Within}
 use Rattle.automata.specs.Reduction.{name, below, Pruned}
 use Rattle.automata.specs.Labels.{between, over}
-use Rattle.automata.proofs.Tests.{both, parts, or_l, or_r, ways, TSame, forth, back}
+use Rattle.automata.proofs.Tests.{both, parts, or_l, or_r, ways, T_same, forth, back}
 use Rattle.automata.proofs.Names.{equal, below_from, below_to}
-use Rattle.automata.proofs.Labels.{all_mem, label_found, label_finds, pruned_is}
+use Rattle.automata.proofs.Labels.{all_mem, label_found, label_finds, pruned_is, between_from, between_to}
 use Rattle.reduction.specs.Chains.{Chained}
 use Rattle.reduction.specs.Sorted.{sources}
 use Rattle.reduction.proofs.Naming.{to_T, from_T}
@@ -46,17 +46,9 @@ module _ {P V : Type 0} (h : P → V → Bool) (f : Arrow P → Bool) where
     taken_here x e on v t = back (joins v) (or_r (h all v) (h label v) (subst (λ (l : P). T (h l v)) (sym e) t))
 
   gathered : (xs : List (Arrow P)) (all : P) → AllByRecursion (Taken all) xs → Sound xs all → (v : V) → h all v ≡ some_label h f xs v
-  gathered xs all each sound v = TSame (h all v) (some_label h f xs v) (sound v) (λ t. let r = label_found h f v xs t in all_mem (Taken all) r.0 xs each r.1 r.2 v r.3)
+  gathered xs all each sound v = T_same (h all v) (some_label h f xs v) (sound v) (λ t. let r = label_found h f v xs t in all_mem (Taken all) r.0 xs each r.1 r.2 v r.3)
 
 module _ {P : Type 0} (K : ℕ → ℕ → Bool) (c d : ℕ) (x : Arrow P) where
-  between_on : name K x.source ≡ c → name K x.target ≡ d → T (between K c d x)
-  unfolding between
-  between_on s t = both _ _ (equal (name K x.source) c s) (equal (name K x.target) d t)
-
-  pub between_so : T (between K c d x) → (name K x.source ≡ c) × (name K x.target ≡ d)
-  unfolding between
-  between_so t = let k = parts _ _ t in (eqb→eq (name K x.source) c k.0, eqb→eq (name K x.target) d k.1)
-
   over_on : name K x.source ≡ c → (name K x.target ≡ d → ⊥) → T (K d (name K x.target)) → T (over K c d x)
   unfolding over
   over_on s ne t = both _ _ (equal (name K x.source) c s) (below_from K d (name K x.target) (λ e. ne (sym e)) t)
@@ -81,7 +73,7 @@ module _ {P V : Type 0} (h : P → V → Bool) (K : ℕ → ℕ → Bool) (c d :
   gathers_all : (low high : P) (at : ℕ) → at ≡ 0 → Gathers low high at → (v : V) → (h low v ≡ some_label h (between K c d) xs v) × (h high v ≡ some_label h (over K c d) xs v)
   gathers_all low high at z g v =
       let all = walk_all (λ x. name K x.source) xs c (Both low high) at z g.walk in (
-        gathered h (between K c d) xs low (All-weaker (λ x. name K x.source ≡ c → Both low high x) (Taken h (between K c d) low) (λ x k on. (k (between_so K c d x on).0).0 on) xs all) g.lows v,
+        gathered h (between K c d) xs low (All-weaker (λ x. name K x.source ≡ c → Both low high x) (Taken h (between K c d) low) (λ x k on. (k (between_to K c d x on).0).0 on) xs all) g.lows v,
         gathered h (over K c d) xs high (All-weaker (λ x. name K x.source ≡ c → Both low high x) (Taken h (over K c d) high) (λ x k on. (k (over_so K c d x on).0).1 on) xs all) g.highs v,
       )
 
@@ -123,20 +115,20 @@ module _ {P V : Type 0} (h : P → V → Bool) (K : ℕ → ℕ → Bool) (c d :
       pub gathers_low : e ≡ d → (new : P) → ((v : V) → h new v ≡ (h low v || h x.label v)) → Gathers new high (get_or next (at - 1) 0)
       gathers_low same new joins = record {
         walk = on new high (taken_here h (between K c d) low new x.label joins x refl, λ o. absurd ((over_so K c d x o).1 (sym to ∙ same))) (λ y was. (taken_more h (between K c d) low new x.label joins y was.0, was.1));
-        lows = sound_more h (between K c d) low new x.label joins xs x (mem_read xs (at - 1) x lt is) refl (between_on K c d x from (sym to ∙ same)) g.lows;
+        lows = sound_more h (between K c d) low new x.label joins xs x (mem_read xs (at - 1) x lt is) refl (between_from K c d x from (sym to ∙ same)) g.lows;
         highs = g.highs;
       }
 
       pub gathers_high : (e ≡ d → ⊥) → K d e ≡ true → (new : P) → ((v : V) → h new v ≡ (h high v || h x.label v)) → Gathers low new (get_or next (at - 1) 0)
       gathers_high ne above new joins = record {
-        walk = on low new ((λ o. absurd (ne (to ∙ (between_so K c d x o).1))), taken_here h (over K c d) high new x.label joins x refl) (λ y was. (was.0, taken_more h (over K c d) high new x.label joins y was.1));
+        walk = on low new ((λ o. absurd (ne (to ∙ (between_to K c d x o).1))), taken_here h (over K c d) high new x.label joins x refl) (λ y was. (was.0, taken_more h (over K c d) high new x.label joins y was.1));
         lows = g.lows;
         highs = sound_more h (over K c d) high new x.label joins xs x (mem_read xs (at - 1) x lt is) refl (over_on K c d x from (λ s. ne (to ∙ s)) (subst (λ (y : ℕ). T (K d y)) to (to_T above))) g.highs;
       }
 
       pub gathers_off : (e ≡ d → ⊥) → K d e ≡ false → Gathers low high (get_or next (at - 1) 0)
       gathers_off ne below' = record {
-        walk = on low high ((λ o. absurd (ne (to ∙ (between_so K c d x o).1))), λ o. absurd (both_ways (K d e) below' (from_T (K d e) (subst (λ (y : ℕ). T (K d y)) (sym to) (over_so K c d x o).2)))) (λ y was. was);
+        walk = on low high ((λ o. absurd (ne (to ∙ (between_to K c d x o).1))), λ o. absurd (both_ways (K d e) below' (from_T (K d e) (subst (λ (y : ℕ). T (K d y)) (sym to) (over_so K c d x o).2)))) (λ y was. was);
         lows = g.lows;
         highs = g.highs;
       }

@@ -11,14 +11,13 @@ use Rattle.automata.specs.Reduction.{name, Pruned}
 use Rattle.automata.specs.Labels.{between}
 use Rattle.automata.proofs.Tests.{back}
 use Rattle.automata.proofs.Names.{highest_to}
-use Rattle.automata.proofs.Labels.{all_mem, label_found, merged_is}
+use Rattle.automata.proofs.Labels.{all_mem, label_found, merged_is, between_to}
 use Rattle.bits.specs.Matrix.{pair, Changed}
 use Rattle.reduction.specs.Chains.{Chained}
 use Rattle.reduction.specs.Sorted.{sources}
 use Rattle.reduction.proofs.Blank.{get_or_blank}
 use Rattle.reduction.proofs.Naming.{to_T, from_T}
 use Rattle.reduction.proofs.Chains.{Walk, walk_none, walk_more, walk_all}
-use Rattle.reduction.proofs.Gathering.{between_so}
 
 -- a test for symbols of a label that holds of what is read tells whether anything is read
 pub linked_tells : {P V : Type 0} (h : P → V → Bool) (M : Automaton V) (c d : ℕ) (label : P) (b : Bool) → ((v : V) → h label v ≡ M.reads c v d) → Decides b ((v : V) × (h label v ≡ true)) → Decides b (Linked M c d)
@@ -47,7 +46,7 @@ module _ {P V : Type 0} (h : P → V → Bool) (marks : List Mark) (xs : List (A
       led : Linked M c d → get_or seen d false ≡ true
       led l =
           let r = label_found h (between K c d) l.0 xs (back (merged_is h marks xs K within c d l.0) (highest_to K (length marks) _ d l.1).0) in
-          let e = between_so K c d r.0 r.2 in
+          let e = between_to K c d r.0 r.2 in
           let all = walk_all (λ x. name K x.source) xs c (λ x. get_or seen (name K x.target) false ≡ true) at z s.walk in
           ap (λ y. get_or seen y false) (sym e.1) ∙ all_mem (λ x. name K x.source ≡ c → get_or seen (name K x.target) false ≡ true) r.0 xs all r.1 e.0
 

@@ -57,11 +57,6 @@ module _ (f : ℕ → Bool) (n k : ℕ) (xs : List ℕ) (listed : take k xs ≡ 
   part_length m few h size = ap (λ (m : ℕ). length (take m xs)) (sub-zero k) ∙ length-take-le k xs (omega arith)
 
 -- tests that agree below n list the same
-pub rising_agree : (f g : ℕ → Bool) (n : ℕ) → ((k : ℕ) → k < n → f k ≡ g k) → rising f n ≡ rising g n
-unfolding rising
-rising_agree f g zero e = refl
-rising_agree f g (suc n) e = rw (e n (omega arith), rising_agree f g n (λ k h. e k (omega arith)))
-
 module _ (R : ℕ → ℕ → Bool) (n : ℕ) where
   pub rows_none : [] ≡ rows R n 0
   unfolding rows

@@ -7,7 +7,7 @@ use Rattle.automata.specs.declared.Arrow.{Arrow}
 use Rattle.automata.specs.Automata.{Within}
 use Rattle.automata.specs.Below.{any_below, least_below}
 use Rattle.automata.specs.Reduction.{same, name, member, below, highest}
-use Rattle.automata.proofs.Tests.{TSame, back}
+use Rattle.automata.proofs.Tests.{T_same, back}
 use Rattle.automata.proofs.Names.{name_le}
 use Rattle.reduction.specs.Sorted.{sources, Named}
 use Rattle.reduction.proofs.Blank.{get_or_blank}
@@ -17,7 +17,7 @@ pub to_T : {b : Bool} → b ≡ true → T b
 to_T e = back e tt
 
 pub from_T : (b : Bool) → T b → b ≡ true
-from_T b t = TSame b true (λ _. tt) (λ _. t)
+from_T b t = T_same b true (λ _. tt) (λ _. t)
 
 pub map_agree : {X Y : Type 0} (f g : X → Y) (xs : List X) → AllByRecursion (λ x. f x ≡ g x) xs → map f xs ≡ map g xs
 map_agree f g [] e = refl
@@ -78,7 +78,7 @@ module _ (K : ℕ → ℕ → Bool) where
   highest_all n f c none = rw off (sym (and_right' (f c)))
     where
       off : any_below n (λ e. f e && below K c e) ≡ false
-      off = TSame _ false (λ t. let k = found _ _ t in absurd (both_ways _ (none k.0 k.1) (from_T _ k.2))) (λ t. absurd t)
+      off = T_same _ false (λ t. let k = found _ _ t in absurd (both_ways _ (none k.0 k.1) (from_T _ k.2))) (λ t. absurd t)
 
       and_right' : (b : Bool) → (b && true) ≡ b
       and_right' true = refl

@@ -29,7 +29,7 @@ module _ {V : Type 0} (M : Automaton V) where
       → ((d : ℕ) → d < M.size → Decides (links' c d) (Linked M c d))
       → ((d : ℕ) → reached' d ≡ (links' c d || reached d))
       → Walking reached done links → Walking reached' done' links'
-  walking_more reached done reached' done' links links' c hc at_c now' same-done same-links tells grown w = record {
+  walking_more reached done reached' done' links links' c hc at_c now' same_done same_links tells grown w = record {
     sound = λ d h e. elim (or_cases (links' c d) (reached d) (sym (grown d) ∙ e)) [
       | inl t ↦ let l = (tells d h).0 t in step (w.sound c hc at_c) l.0 h l.1
       | inr t ↦ w.sound d h t
@@ -38,12 +38,12 @@ module _ {V : Type 0} (M : Automaton V) where
     told = λ i d hi hd e. elim (cases_eq i c) [
       | inl q ↦ subst (λ (x : ℕ). Decides (links' x d) (Linked M x d) × (links' x d ≡ true → reached' d ≡ true)) (sym q) (tells d hd, λ t. grown d ∙ or_left (links' c d) (reached d) t)
       | inr ne ↦
-          let o = w.told i d hi hd (sym (same-done i ne) ∙ e) in
-          (subst (λ (b : Bool). Decides b (Linked M i d)) (sym (same-links i d ne)) o.0, λ t. grown d ∙ or_right (links' c d) (reached d) (o.1 (sym (same-links i d ne) ∙ t)))
+          let o = w.told i d hi hd (sym (same_done i ne) ∙ e) in
+          (subst (λ (b : Bool). Decides b (Linked M i d)) (sym (same_links i d ne)) o.0, λ t. grown d ∙ or_right (links' c d) (reached d) (o.1 (sym (same_links i d ne) ∙ t)))
     ];
     empty = λ i d off. elim (cases_eq i c) [
       | inl q ↦ absurd (both_ways (done' i) off (subst (λ (x : ℕ). done' x ≡ true) (sym q) now'))
-      | inr ne ↦ same-links i d ne ∙ w.empty i d (sym (same-done i ne) ∙ off)
+      | inr ne ↦ same_links i d ne ∙ w.empty i d (sym (same_done i ne) ∙ off)
     ];
   }
 

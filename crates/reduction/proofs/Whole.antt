@@ -12,7 +12,7 @@ use Rattle.automata.specs.Simulation.{Greatest}
 use Rattle.automata.specs.Minimal.{Minimal}
 use Rattle.automata.specs.Reduction.{Pruned, Tells, below, reached, staying, class, Reduction, reduced_marks, reduced_ends, reduced_kept}
 use Rattle.automata.specs.Book.{ends, ReducedBook}
-use Rattle.automata.proofs.Tests.{TSame}
+use Rattle.automata.proofs.Tests.{T_same}
 use Rattle.automata.proofs.Below.{rising_rises}
 use Rattle.automata.proofs.Reach.{reached_is, is_reached}
 use Rattle.automata.proofs.Tables.{rows_all}
@@ -21,7 +21,7 @@ use Rattle.bits.specs.Matrix.{pair}
 use Rattle.reduction.specs.Drawn.{linked_at, reads_at, Drawn}
 use Rattle.reduction.specs.Filled.{Filled}
 use Rattle.reduction.proofs.Naming.{to_T, from_T, map_agree}
-use Rattle.reduction.proofs.Listing.{rising_agree}
+use Rattle.automata.proofs.Book.{rising_same}
 
 pub marks_agree : {V : Type 0} (M : Automaton V) (K : ℕ → ℕ → Bool) (initial accepting : List Bool) (classes : List ℕ) → ((c : ℕ) → c < M.size → get_or initial c false ≡ (Pruned M K).initial c) → ((c : ℕ) → c < M.size → get_or accepting c false ≡ (Pruned M K).accepting c) → AllByRecursion (λ c. c < M.size) classes
     → map (λ c. mark (get_or initial c false) (get_or accepting c false)) classes ≡ map (λ c. mark ((Pruned M K).initial c) ((Pruned M K).accepting c)) classes
@@ -30,7 +30,7 @@ marks_agree M K initial accepting classes x y low = map_agree _ _ classes (All-w
 module _ {V : Type 0} (M : Automaton V) (K linked : ℕ → ℕ → Bool) (told : Tells M K linked) where
   -- the classes found to be reached are those that stay
   pub listed_is : (stays : ℕ → Bool) → ((c : ℕ) → c < M.size → Decides (stays c) (Reachable (Pruned M K) c)) → rising stays M.size ≡ staying M K linked
-  listed_is stays tells = rising_agree stays _ M.size (λ c h. TSame _ _ (λ t. is_reached (Pruned M K) linked told ((tells c h).0 (from_T _ t))) (λ t. to_T ((tells c h).1 (reached_is (Pruned M K) linked told c h t))))
+  listed_is stays tells = rising_same stays _ M.size (λ c h. T_same _ _ (λ t. is_reached (Pruned M K) linked told ((tells c h).0 (from_T _ t))) (λ t. to_T ((tells c h).1 (reached_is (Pruned M K) linked told c h t))))
 
   -- a book whose labels are the sets that are read
   abbrev arrow_of : ℕ × ℕ → Arrow (V → Bool)

@@ -13,7 +13,7 @@ use Rattle.lines.specs.Numbers.{number_in}
 use Rattle.lines.specs.declared.Fault.{Fault}
 use Rattle.lines.specs.declared.Fault.TheVariants as fault
 use Rattle.lines.specs.declared.Place.{Place}
-use Rattle.lines.proofs.Fields.{fields-joined}
+use Rattle.lines.proofs.Fields.{fields_joined}
 use Rattle.lines.proofs.Numbers.{number_in_decimal, free_decimal}
 use Rattle.written.specs.Texts.{Plain, reads_whole}
 use Rattle.written.specs.declared.Reading.{Reading}
@@ -71,11 +71,11 @@ plain_decimal n small = both (decimal n) (free_decimal 44 n (omega arith) small)
     both [] h k = tt
     both (b ∷ bs) h k = ((h.0, k.0), both bs h.1 k.1)
 
-plain-mark : (m : Mark) → Plain (mark_text m)
-plain-mark mark.Neither = search rules
-plain-mark mark.Initial = search rules
-plain-mark mark.Accepting = search rules
-plain-mark mark.Both = search rules
+plain_mark : (m : Mark) → Plain (mark_text m)
+plain_mark mark.Neither = search rules
+plain_mark mark.Initial = search rules
+plain_mark mark.Accepting = search rules
+plain_mark mark.Both = search rules
 
 plain_ticket : (t : Option ℕ) → FitsTicket t → AllByRecursion Plain (ticket_fields t)
 plain_ticket None fit = tt
@@ -113,7 +113,7 @@ free_10 bs h = All-weaker (λ b. (b ≡ 44 → ⊥) × (b ≡ 10 → ⊥)) (λ b
 
 pub fields-by_commas : (fs : List (List ℕ)) → 1 ≤ length fs → AllByRecursion Plain fs → fields (by_commas fs) ≡ fs
 fields-by_commas [] some all = absurd (omega arith)
-fields-by_commas (f ∷ fs) some all = fields-joined f fs (free_44 f all.0) (All-weaker Plain (Free 44) free_44 fs all.1)
+fields-by_commas (f ∷ fs) some all = fields_joined f fs (free_44 f all.0) (All-weaker Plain (Free 44) free_44 fs all.1)
 
 pub free_by_commas : (fs : List (List ℕ)) → AllByRecursion Plain fs → Free 10 (by_commas fs)
 free_by_commas [] all = tt
@@ -203,8 +203,8 @@ module _ {P : Type 0} {Same : P → P → Type 0} (text : P → List ℕ) (reads
 
   plain_call : (c : Stated P) → FitsCall c → AllByRecursion Plain (call_fields text c)
   plain_call opens fit = (search rules, tt)
-  plain_call (adds m t) fit = (search rules, (plain-mark m, plain_ticket t fit))
-  plain_call (marks s m t) fit = (search rules, (plain_decimal s (omega arith), (plain-mark m, plain_ticket t fit.1)))
+  plain_call (adds m t) fit = (search rules, (plain_mark m, plain_ticket t fit))
+  plain_call (marks s m t) fit = (search rules, (plain_decimal s (omega arith), (plain_mark m, plain_ticket t fit.1)))
   plain_call (links p q l t) fit = (search rules, (plain_decimal p (omega arith), (plain_decimal q (omega arith), (plain l, plain_ticket t fit.2))))
   plain_call (strikes k t) fit = (search rules, (plain_decimal k (omega arith), plain_ticket t fit.1))
   plain_call (settles t) fit = (search rules, plain_ticket t fit)

@@ -16,7 +16,7 @@ use Rattle.lines.specs.declared.Place.{Place}
 use Rattle.lines.proofs.Numbers.{number_in_cases}
 use Rattle.written.specs.Texts.{whole_if, reads_whole}
 use Rattle.written.specs.declared.Reading.{Reading}
-use Rattle.written.specs.Codecs.{whole_text}
+use Rattle.label_list.proofs.Law.{text_from_whole}
 use Rattle.label_list.specs.Lists.{further}
 use Rattle.script.specs.declared.verbs.Verb.{Verb}
 use Rattle.script.specs.declared.verbs.Verb.TheVariants as verb
@@ -76,7 +76,7 @@ mark_exact (c ∷ []) m e =
 symbol_exact : (field : List ℕ) (s : Symbol) → symbol_in field ≡ Some s → (field ≡ symbol_text s) × FitsSymbol s
 unfolding symbol_in
 symbol_exact [] s e = clash _ s refl e
-symbol_exact (c ∷ digits) s e = by-mark (eqb c 109) refl e
+symbol_exact (c ∷ digits) s e = by_mark (eqb c 109) refl e
   where
     left : (o : Option ℕ) → c ≡ 109 → number_in 255 digits ≡ o → option_map Left o ≡ Some s → (c ∷ digits ≡ symbol_text s) × FitsSymbol s
     left None is n f = clash _ s refl f
@@ -98,9 +98,9 @@ symbol_exact (c ∷ digits) s e = by-mark (eqb c 109) refl e
     by_point true t f = right (number_in 4294967295 digits) (eqb-true c 99 t) refl f
     by_point false t f = clash _ s refl f
 
-    by-mark : (t : Bool) → eqb c 109 ≡ t → cond t (option_map Left (number_in 255 digits)) (cond (eqb c 99) (option_map Right (number_in 4294967295 digits)) None) ≡ Some s → (c ∷ digits ≡ symbol_text s) × FitsSymbol s
-    by-mark true t f = left (number_in 255 digits) (eqb-true c 109 t) refl f
-    by-mark false t f = by_point (eqb c 99) refl f
+    by_mark : (t : Bool) → eqb c 109 ≡ t → cond t (option_map Left (number_in 255 digits)) (cond (eqb c 99) (option_map Right (number_in 4294967295 digits)) None) ≡ Some s → (c ∷ digits ≡ symbol_text s) × FitsSymbol s
+    by_mark true t f = left (number_in 255 digits) (eqb-true c 109 t) refl f
+    by_mark false t f = by_point (eqb c 99) refl f
 
 symbols_exact : (at : Place) (fs : List (List ℕ)) (w : List Symbol) → symbols_say at fs ≡ Ok w → (fs ≡ map symbol_text w) × AllByRecursion FitsSymbol w
 unfolding symbols_say
@@ -190,19 +190,6 @@ mark_at_exact at fs k m e = mark_exact (get_or fs k []) m (some_from_ok_or _ _ m
 -- what was read has as its text the very bytes taken
 module _ {P : Type 0} (text : P → List ℕ) (reads : List ℕ → Option (Reading P))
     (exact : (bytes : List ℕ) (got : Reading P) → reads bytes ≡ Some got → (got.len ≡ length (text got.predicate)) × (bytes ≡ text got.predicate ++ drop got.len bytes)) where
-  label_exact : (field : List ℕ) (p : P) → reads_whole reads field ≡ Some p → field ≡ text p
-  label_exact field p e = by (reads field) refl e
-    where
-      on : (got : Reading P) (t : Bool) → reads field ≡ Some got → eqb got.len (length field) ≡ t → cond t (Some got.predicate) None ≡ Some p → field ≡ text p
-      on got false is t f = clash _ p refl f
-      on got true is t f =
-          let same : got.predicate ≡ p = cc in
-          whole_text reads field (text got.predicate) got.len (eqb-true got.len (length field) t) (exact field got is).1 ∙ ap text same
-
-      by : (o : Option (Reading P)) → reads field ≡ o → whole_if (length field) o ≡ Some p → field ≡ text p
-      by None is f = clash _ p refl f
-      by (Some got) is f = on got (eqb got.len (length field)) is refl f
-
   module _ (at : Place) (fs : List (List ℕ)) where
     -- a call is stated by just these fields
     abbrev States : Stated P → Type 0
@@ -236,7 +223,7 @@ module _ {P : Type 0} (text : P → List ℕ) (reads : List ℕ → Option (Read
         let t = made_of (ticket_said_at at fs 4) (links p.first q.first l.first) c l.so in
         let source = number_at_exact at fs 1 p.first p.was in
         let target = number_at_exact at fs 2 q.first q.was in
-        let label = label_exact (get_or fs 3 []) l.first (some_from_ok_or _ _ l.first l.was) in
+        let label = text_from_whole text reads exact (get_or fs 3 []) l.first (some_from_ok_or _ _ l.first l.was) in
         let ticket = ticket_exact at fs 4 t.part many t.was in
         let whole : fs ≡ codes "arrow" ∷ decimal p.first ∷ decimal q.first ∷ text l.first ∷ ticket_fields t.part =
         cc (shape_4 fs few, source.1, target.1, ticket.0) in

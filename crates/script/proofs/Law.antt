@@ -7,7 +7,7 @@ use Rattle.lines.specs.declared.Fault.{Fault}
 use Rattle.lines.specs.declared.Place.{Place}
 use Rattle.lines.proofs.Fields.{fields_free, fields_some, line_joined, same_parted, split_newline, text_joined}
 use Rattle.header.specs.CutLine.{cut_line_text, cut_line}
-use Rattle.header.proofs.Law.{cut_line-rising, cut_line_text_free}
+use Rattle.header.proofs.Law.{cut_line_rising, cut_line_text_free}
 use Rattle.labels.specs.Segments.{Rising}
 use Rattle.labels.specs.declared.sum.Both.{Both}
 use Rattle.written.specs.Texts.{Plain}
@@ -89,11 +89,11 @@ module _ {P : Type 0} {Same : P → P → Type 0} (text : P → List ℕ) (reads
   lines_back : (at : Place) (xs : List (Line P)) → AllByRecursion Fits xs → (all : List (Line P)) × (text_says reads at (lines_text text xs) ≡ Ok all)
   unfolding split lines_text
   lines_back at [] fit =
-      let no-comma : Free 44 (codes "end") = search rules in
+      let no_comma : Free 44 (codes "end") = search rules in
       let no_end : Free 10 (codes "end") = search rules in (
         [],
         ap (λ s. lines_say reads at s.whole s.rest) (split_newline (codes "end") [] no_end)
-            ∙ lines_say_more reads at (codes "end") [] [] (Ok None) (ap (line_says reads at) (fields_free (codes "end") no-comma) ∙ end_back text reads back plain at),
+            ∙ lines_say_more reads at (codes "end") [] [] (Ok None) (ap (line_says reads at) (fields_free (codes "end") no_comma) ∙ end_back text reads back plain at),
       )
   lines_back at (x ∷ xs) fit =
       let line = line_text text x in
@@ -136,7 +136,7 @@ module _ (text line rest : List ℕ) (parted : Parted 10 text line rest) where
   pub no_script : (made : List ℕ) (why : Refusal) → cut_line line ≡ Ok made → ByFault (λ f. NoLines (styled_text made) rest) why → ByFault (λ f. NoScript text) why
   no_script made (refusal.Fault f) says none = λ cuts lines up fit is.
       let parts = parts_from_text cuts lines up is in
-      let again : cut_line line ≡ Ok cuts = cut_line-rising cuts up line parts.0 in
+      let again : cut_line line ≡ Ok cuts = cut_line_rising cuts up line parts.0 in
       let same : cuts ≡ made = cc in
       none lines fit (parts.1 ∙ ap (λ cs. lines_text (styled_text cs) lines) same)
   no_script made refusal.Memory says none = tt

@@ -145,12 +145,12 @@ module _ {P : Type 0} (reads : List ℕ → Option (Reading P)) (whole : Result 
     pub turn_fault : (f : Fault) → line_says reads at (fields line) ≡ Err f → whole ≡ Err f
     turn_fault f e = turn (Err f) e
 
-    pub turn_more : (made : Call P) (o : Option (Call P)) (after : List Symbol) (next-calls : List (Call P)) → o ≡ Some made → LineRead (line_says reads at (fields line)) ss o after → next-calls ≡ cs ++ (made ∷ [])
-        → whole ≡ over (told next-calls after) (text_says reads (next at line) rest)
-    turn_more made o after next-calls some adds grown = by adds.said adds.is (sym some ∙ adds.call) adds.grown
+    pub turn_more : (made : Call P) (o : Option (Call P)) (after : List Symbol) (next_calls : List (Call P)) → o ≡ Some made → LineRead (line_says reads at (fields line)) ss o after → next_calls ≡ cs ++ (made ∷ [])
+        → whole ≡ over (told next_calls after) (text_says reads (next at line) rest)
+    turn_more made o after next_calls some adds grown = by adds.said adds.is (sym some ∙ adds.call) adds.grown
       where
         by : (said : Option (Line P)) → line_says reads at (fields line) ≡ Ok said → Some made ≡ said_call (length ss) said → after ≡ ss ++ said_symbols said
-            → whole ≡ over (told next-calls after) (text_says reads (next at line) rest)
+            → whole ≡ over (told next_calls after) (text_says reads (next at line) rest)
         by None e c g = let z : ◌≡◌ {A = ℕ} 0 1 = cc in absurd (omega arith)
         by (Some x) e c g =
             let same : made ≡ line_call (length ss) x = cc in

@@ -1,4 +1,5 @@
-// Eight small books, worked out by hand, as one fact on the definitions: a definition that says something else breaks it.
+// Small books and small lists of cuts, worked out by hand, as one fact on the definitions: a definition that says something
+// else breaks it.
 #![tactic(auto)]
 
 ghost use Rattle.small_books.specs.Books.{SmallBooks};

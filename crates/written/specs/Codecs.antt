@@ -83,10 +83,10 @@ word_exact limit bytes got e = by (hex_read 16 0 bytes) refl e
     by None is f = let z : ◌≡◌ {A = ℕ} 0 1 = cc in absurd (omega arith)
     by (Some word) is f = made word is (nat_lt word limit) refl f
 
-pub plain-hexes : (n word : ℕ) → Plain (hexes n word)
+pub plain_hexes : (n word : ℕ) → Plain (hexes n word)
 unfolding hexes
-plain-hexes zero word = tt
-plain-hexes (suc n) word = ((high (word / 2 ^ (4 * n) % 16) 44 (omega arith), high (word / 2 ^ (4 * n) % 16) 10 (omega arith)), plain-hexes n word)
+plain_hexes zero word = tt
+plain_hexes (suc n) word = ((high (word / 2 ^ (4 * n) % 16) 44 (omega arith), high (word / 2 ^ (4 * n) % 16) 10 (omega arith)), plain_hexes n word)
   where
     high : (d b : ℕ) → b < 48 → hex_digit d ≢ b
     high d b h e = grind (arith, nat_tests)

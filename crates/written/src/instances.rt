@@ -8,7 +8,7 @@ ghost use Rattle.labels.specs.declared.sum.Both.{Both};
 ghost use Rattle.std.proofs.Common.{sym, ◌∙◌, ap, mod-eq_of_lt, pow_pos};
 ghost use Rattle.std.proofs.lemmas.Nat.{mod_below};
 ghost use Rattle.bits.proofs.Lows.{bit_cut};
-ghost use Rattle.written.specs.Codecs.{fails_from_back, word_back, points_back, points_low, word_exact, plain-hexes, either_same, both_back, both_exact};
+ghost use Rattle.written.specs.Codecs.{fails_from_back, word_back, points_back, points_low, word_exact, plain_hexes, either_same, both_back, both_exact};
 ghost use Rattle.written.specs.Hexes.{length-hexes};
 ghost use Rattle.std.proofs.ByRecursion.{All-append};
 
@@ -32,7 +32,7 @@ impl WrittenAlgebra for StyleMarks {
         fails_from_back (hexes 16) (λ bs. reads_word (2 ^ 64) (hex_read 16 0 bs)) bytes e p rest _
         (word_back (2 ^ 64) p rest (mod_below p (2 ^ 64) (pow_pos 64))) is };
 
-    ghost plain = { λ a p. plain-hexes 16 p };
+    ghost plain = { λ a p. plain_hexes 16 p };
 
     fn text_len(&self, _p: u64) -> usize {
         16
@@ -66,7 +66,7 @@ impl WrittenAlgebra for CodePoints {
         let limit = 2 ^ (length (cuts_of a.cuts) + 1) in
         fails_from_back (λ q. hexes 16 (q % limit)) (λ bs. reads_word limit (hex_read 16 0 bs)) bytes e p rest _ (points_back a.cuts p rest) is };
 
-    ghost plain = { λ a p. plain-hexes 16 (p % 2 ^ (length (cuts_of a.cuts) + 1)) };
+    ghost plain = { λ a p. plain_hexes 16 (p % 2 ^ (length (cuts_of a.cuts) + 1)) };
 
     fn text_len(&self, _p: u64) -> usize {
         16

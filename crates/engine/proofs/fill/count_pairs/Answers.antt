@@ -1,8 +1,9 @@
 use Rattle.std.proofs.Common.{◌≡◌, ap, ◌∙◌, arith}
 use Rattle.bits.specs.Matrix.{pair}
 use Rattle.automata.specs.Below.{sum_to, count, pairs}
-use Rattle.engine.proofs.Sums.{sum_none, sum_more, sum_most, count_most}
+use Rattle.engine.proofs.Sums.{sum_none, sum_more, sum_most}
 use Rattle.engine.proofs.fill.count_pairs.Goals as goal
+use Rattle.automata.proofs.Below.{count_most}
 
 pub loop-p-init : goal.loop-p-init
 loop-p-init c = sum_none _

@@ -1,9 +1,10 @@
 use Rattle.std.proofs.Common.{◌≡◌, ℕ, ◌+◌, cond, ap, ◌∙◌, arith}
 use Rattle.bits.specs.Matrix.{pair}
 use Rattle.automata.specs.Below.{count}
-use Rattle.engine.proofs.Sums.{sum_none, sum_more, count_most}
+use Rattle.engine.proofs.Sums.{sum_none, sum_more}
 use Rattle.engine.proofs.fill.count_row.Goals as goal
 use Rattle.engine.proofs.fill.count_row.Goals.{then-is_kept, else-is_kept}
+use Rattle.automata.proofs.Below.{count_most}
 
 pub loop-q-init : goal.loop-q-init
 loop-q-init c = sum_none _
