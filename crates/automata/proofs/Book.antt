@@ -23,13 +23,13 @@ use Rattle.automata.proofs.Tables.{rows_has}
 use Rattle.automata.proofs.Fewest.{fewest}
 use Rattle.automata.proofs.Labels.{all_mem, label_found, label_finds, leads_from, leads_to}
 
-initial_mark : (a b : Bool) → mark_is_start (mark a b) ≡ a
+pub initial_mark : (a b : Bool) → mark_is_start (mark a b) ≡ a
 initial_mark false false = refl
 initial_mark false true = refl
 initial_mark true false = refl
 initial_mark true true = refl
 
-accepting_mark : (a b : Bool) → mark_accepts (mark a b) ≡ b
+pub accepting_mark : (a b : Bool) → mark_accepts (mark a b) ≡ b
 accepting_mark false false = refl
 accepting_mark false true = refl
 accepting_mark true false = refl

@@ -42,11 +42,11 @@ module _ {P : Type 0} (K : ℕ → ℕ → Bool) (c d : ℕ) (x : Arrow P) where
   unfolding between
   between_to t = let k = parts _ _ t in (eqb→eq (name K x.source) c k.0, eqb→eq (name K x.target) d k.1)
 
-  over_from : name K x.source ≡ c → T (below K d (name K x.target)) → T (over K c d x)
+  pub over_from : name K x.source ≡ c → T (below K d (name K x.target)) → T (over K c d x)
   unfolding over
   over_from e t = both _ _ (equal (name K x.source) c e) t
 
-  over_to : T (over K c d x) → (name K x.source ≡ c) × T (below K d (name K x.target))
+  pub over_to : T (over K c d x) → (name K x.source ≡ c) × T (below K d (name K x.target))
   unfolding over
   over_to t = let k = parts _ _ t in (eqb→eq (name K x.source) c k.0, k.1)
 

@@ -12,7 +12,7 @@ ghost use Rattle.automata.specs.Automata.{mark_is_start, mark_accepts, mark};
 ghost use Rattle.automata.specs.Theorems.{Simulations, Settling, Inclusion, Steps, Faithful, Reduces, Fewest, Labelled, Books};
 
 // Whether a state is initial, and whether it is accepting.
-#[derive(Clone, Copy)]
+#[derive(Clone, Copy, PartialEq, Eq, Debug)]
 pub enum Mark {
     Neither,
     Initial,
@@ -21,7 +21,7 @@ pub enum Mark {
 }
 
 // A transition: from the state `source` to the state `target` by each symbol of which the label holds.
-#[derive(Clone, Copy)]
+#[derive(Clone, Copy, PartialEq, Eq, Debug)]
 pub struct Arrow<P> {
     pub source: u16,
     pub label: P,
@@ -40,22 +40,17 @@ impl Mark {
         }
     }
 
+    // One test each: a function between the two would be no plainer.
     pub fn is_initial(self) -> bool
         ensures { result ≡ mark_is_start self }
     {
-        match self {
-            Mark::Initial | Mark::Both => true,
-            Mark::Neither | Mark::Accepting => false,
-        }
+        matches!(self, Mark::Initial | Mark::Both)
     }
 
     pub fn is_accepting(self) -> bool
         ensures { result ≡ mark_accepts self }
     {
-        match self {
-            Mark::Accepting | Mark::Both => true,
-            Mark::Neither | Mark::Initial => false,
-        }
+        matches!(self, Mark::Accepting | Mark::Both)
     }
 }
 

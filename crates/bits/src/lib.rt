@@ -10,7 +10,7 @@ ghost use Rattle.bits.specs.Laws.{WordLaws};
 
 mod matrix;
 
-pub use matrix::{clear, is_kept, keep, put_word};
+pub use matrix::{Rows, is_kept, put_word, set};
 
 // Whether bit `k` of `word` is set; there is none past 63.
 pub fn is_set(word: u64, k: usize) -> bool
@@ -23,11 +23,7 @@ pub fn is_set(word: u64, k: usize) -> bool
 pub fn lowest(word: u64) -> Option<u32>
     ensures { MatchOption result ((k : ℕ) → bit word k ≡ false) (λ n. Lowest word n) }
 {
-    if word == 0 {
-        None
-    } else {
-        Some(word.trailing_zeros())
-    }
+    (word != 0).then_some(word.trailing_zeros())
 }
 
 // The bits 0 to `last` of `word`, and no other.

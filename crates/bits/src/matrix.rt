@@ -1,9 +1,71 @@
-// The 256 × 256 matrix of bits in a slice of words, four words to a row.
+// Rows of 256 bits: four words to a row, so that a relation on 256 states is 256 rows.
 
-ghost use Rattle.std.specs.Prelude.{◌≡◌, ◌+◌, ◌*◌, ◌<◌, true, false, length, slice_set};
+ghost use Rattle.std.specs.Prelude.{◌≡◌, ℕ, ◌+◌, ◌*◌, ◌<◌, true, false, length, Decides, ◌≢◌, slice_set};
+ghost use Rattle.bits.specs.Bit.{bit};
 ghost use Rattle.bits.specs.Matrix.{pair, Changed};
 
-// Whether the pair `p`, `q` is kept.
+// As many words as make whole rows; the pair p, q is bit q mod 64 of word 4p + q div 64.
+#[derive(Clone, Copy)]
+pub struct Rows<const WORDS: usize> {
+    pub words: [u64; WORDS],
+    pub ghost whole: { length words ≡ WORDS },
+}
+
+impl<const WORDS: usize> Rows<WORDS> {
+    // Rows that keep no pair.
+    pub fn empty() -> Rows<WORDS>
+        ensures { (p q : ℕ) → pair result.words p q ≡ false }
+    {
+        Rows { words: [0; WORDS] }
+    }
+
+    // Whether the pair `p`, `q` is kept.
+    pub fn keeps(&self, p: usize, q: usize) -> bool
+        requires row { 4 * p + 3 < WORDS }
+        requires column { q < 256 }
+        ensures { result ≡ pair self.now.words p q }
+    {
+        is_kept(&self.words, p, q)
+    }
+
+    // Adds the pair `p`, `q`, or takes it out.
+    pub fn set(&mut self, p: usize, q: usize, kept: bool)
+        requires row { 4 * p + 3 < WORDS }
+        requires column { q < 256 }
+        ensures { Changed kept self.old.words self.new.words p q }
+    {
+        set(&mut self.words, p, q, kept);
+    }
+
+    // Makes row `p` the one of `row`.
+    pub fn put_row(&mut self, p: usize, row: &Rows<4>)
+        requires { 4 * p + 3 < WORDS }
+        ensures here { (q : ℕ) → pair self.new.words p q ≡ pair row.now.words 0 q }
+        ensures others { (i q : ℕ) → i ≢ p → pair self.new.words i q ≡ pair self.old.words i q }
+    {
+        let words = &mut self.words[..];
+        words[4 * p..4 * p + 4].copy_from_slice(&row.words);
+    }
+
+    // Whether row `p` and the one of `row` have a number in common.
+    pub fn meets(&self, p: usize, row: &Rows<4>) -> bool
+        requires { 4 * p + 3 < WORDS }
+        ensures { Decides result ((q : ℕ) × (pair self.now.words p q ≡ true) × (pair row.now.words 0 q ≡ true)) }
+    {
+        let words = &self.words[..];
+        let mut pairs = words[4 * p..4 * p + 4].iter().zip(&row.words);
+        pairs.any(|(x, y)| overlap(*x, *y))
+    }
+}
+
+// Whether two words have a bit in common.
+fn overlap(x: u64, y: u64) -> bool
+    ensures { Decides result ((k : ℕ) × (bit x k ≡ true) × (bit y k ≡ true)) }
+{
+    x & y != 0
+}
+
+// The same on a slice of any length: whether the pair `p`, `q` is kept.
 pub fn is_kept(rows: &[u64], p: usize, q: usize) -> bool
     requires row { 4 * p + 3 < length rows.now }
     requires column { q < 256 }
@@ -12,29 +74,19 @@ pub fn is_kept(rows: &[u64], p: usize, q: usize) -> bool
     crate::is_set(rows[4 * p + q / 64], q % 64)
 }
 
-// Adds the pair `p`, `q`.
-pub fn keep(rows: &mut [u64], p: usize, q: usize)
+// Adds the pair `p`, `q`, or takes it out.
+pub fn set(rows: &mut [u64], p: usize, q: usize, kept: bool)
     requires row { 4 * p + 3 < length rows.old }
     requires column { q < 256 }
-    ensures { Changed true rows.old rows.new p q }
+    ensures { Changed kept rows.old rows.new p q }
 {
     let i = 4 * p + q / 64;
     let word = rows[i];
-    put_word(rows, i, word | 1 << (q % 64));
+    let bit = 1 << (q % 64);
+    put_word(rows, i, if kept { word | bit } else { word & !bit });
 }
 
-// Takes the pair `p`, `q` out.
-pub fn clear(rows: &mut [u64], p: usize, q: usize)
-    requires row { 4 * p + 3 < length rows.old }
-    requires column { q < 256 }
-    ensures { Changed false rows.old rows.new p q }
-{
-    let i = 4 * p + q / 64;
-    let word = rows[i];
-    put_word(rows, i, word & !(1 << (q % 64)));
-}
-
-// Writes a word of a row: the only place where rows are written.
+// Writes a word of a row.
 pub fn put_word(rows: &mut [u64], i: usize, word: u64)
     requires { i < length rows.old }
     ensures { rows.new ≡ slice_set rows.old i word }

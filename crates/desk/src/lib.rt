@@ -6,8 +6,8 @@
 
 ghost use Rattle.std.specs.Prelude.{◌≡◌, length, IfOk};
 ghost use Rattle.rulebook.specs.declared.parts.Condition.TheVariants.{Open, Settled};
-ghost use Rattle.rulebook.specs.Model.{settling};
-ghost use Rattle.rulebook.specs.View.{view};
+ghost use Rattle.rulebook.specs.Model.{with_condition, settling};
+ghost use Rattle.rulebook.specs.View.{view, number_of, Edits};
 ghost use Rattle.bits.specs.Bit.{some_bit};
 ghost use Rattle.desk.specs.Rules.{writing, entering};
 
@@ -17,25 +17,20 @@ use rulebook::{Book, Refusal, Ticket};
 
 // Writes a rule under the ticket, up to the first part that is declined. Answers the arrow's place.
 fn write_rule(book: &mut Book<'_, u64>, ticket: &Ticket, label: u64) -> Result<usize, Refusal>
-    ensures says { result ≡ (writing (view book.old) ticket.now.number label (some_bit label)).answer }
-    ensures leaves { view book.new ≡ (writing (view book.old) ticket.now.number label (some_bit label)).next }
+    ensures writes { Edits (writing (view book.old) (number_of ticket.now) label (some_bit label)) result book.old book.new }
     ensures place { IfOk result (λ k. k ≡ length (view book.old).arrows) }
-    ensures number { (view book.new).number ≡ (view book.old).number }
-    ensures room { (view book.new).room ≡ (view book.old).room }
-    ensures condition { (view book.new).condition ≡ (view book.old).condition }
 {
     let source = book.add_state(ticket, Mark::Initial)?;
     let target = book.add_state(ticket, Mark::Accepting)?;
     book.add_arrow(&StyleMarks, ticket, source, label, target)
 }
 
-// Settles the open book by its own ticket.
+// Settles the open book by its own ticket. Not by `unwrap`: an error would hold the ticket, which may not be let go.
 fn close(book: &mut Book<'_, u64>, ticket: Ticket)
-    requires { ((view book.old).condition ≡ Open) × (ticket.number ≡ (view book.old).number) }
-    ensures number { (view book.new).number ≡ (view book.old).number }
-    ensures room { (view book.new).room ≡ (view book.old).room }
-    ensures settled { (view book.new).condition ≡ Settled }
-    ensures leaves { view book.new ≡ (settling (view book.old) ticket.number).next }
+    requires open { (view book.old).condition ≡ Open }
+    requires own { number_of ticket ≡ (view book.old).number }
+    ensures closes { view book.new ≡ with_condition (view book.old) Settled }
+    ensures leaves { view book.new ≡ (settling (view book.old) (number_of ticket)).next }
 {
     match book.settle(&StyleMarks, ticket) {
         Ok(_) => (),

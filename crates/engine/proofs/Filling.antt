@@ -1,39 +1,13 @@
 -- The first fill of the matrix. Assumes nothing.
-use Rattle.std.proofs.Common.{◌≡◌, ℕ, ◌+◌, ◌*◌, ◌/◌, ◌%◌, ◌<◌, ◌≤◌, Bool, true, false, ◌&&◌, ◌||◌, ltb, List, length, get_or, replicate, refl, ap, ◌∙◌, inl, inr, arith}
-use Rattle.std.proofs.lemmas.List.{get_or_past, get_or-replicate, length-replicate}
+use Rattle.std.proofs.Common.{◌≡◌, ℕ, ◌+◌, ◌<◌, ◌≤◌, Bool, true, false, ◌&&◌, ◌||◌, ltb, List, length, get_or, sym, refl, ap, ◌∙◌, inl, inr, arith}
+use Rattle.std.proofs.lemmas.List.{get_or_past}
 use Rattle.std.proofs.lemmas.Bool.{cases_eq, cases_lt, lt-ltb, le-ltb, and_right}
 use Rattle.std.proofs.lemmas.Bool.Decides.{nat_tests}
-use Rattle.bits.specs.Bit.{bit}
 use Rattle.bits.specs.Matrix.{pair}
-use Rattle.bits.proofs.Words.{bit_zero}
 use Rattle.automata.specs.declared.Mark.{Mark}
 use Rattle.automata.specs.declared.Mark.TheVariants.{Neither}
 use Rattle.automata.specs.Automata.{mark_accepts}
 use Rattle.engine.specs.Columns.{allowed}
-
--- no word, no pair
-pub pair_none : (n p q : ℕ) → pair (replicate {A = ℕ} n 0) p q ≡ false
-unfolding pair
-pair_none n p q =
-    let none : List ℕ = replicate n 0 in
-    let z : get_or none (4 * p + q / 64) 0 ≡ 0 = elim (cases_lt (4 * p + q / 64) n) [
-      | inl h ↦ get_or-replicate n (4 * p + q / 64) 0 0 h
-      | inr h ↦ get_or_past none (4 * p + q / 64) 0 (omega (arith, length-replicate {A = ℕ} n 0))
-    ] in
-    rw (z, bit_zero) (and_right (ltb q 256) false refl)
-
--- one place more of a row
-pub row_more : (A f g : ℕ → Bool) (q : ℕ) → ((j : ℕ) → f j ≡ (ltb j q && A j)) → g q ≡ A q
-    → ((j : ℕ) → (j ≡ q → ⊥) → g j ≡ f j) → (j : ℕ) → g j ≡ (ltb j (q + 1) && A j)
-row_more A f g q was here others j = elim (cases_eq j q) [
-  | inl e ↦ rw (e, lt-ltb q (q + 1) (omega arith)) here
-  | inr ne ↦ let s = others j ne in let o = was j in grind (arith, nat_tests)
-]
-
--- a pair by the word that it lies in
-pub pair_at : (rows : List ℕ) (p q : ℕ) → q < 256 → pair rows p q ≡ bit (get_or rows (4 * p + q / 64) 0) (q % 64)
-unfolding pair
-pair_at rows p q h = rw (lt-ltb q 256 h)
 
 module _ (marks : List Mark) (p q : ℕ) where
   pub allowed_accepting : p < length marks → mark_accepts (get_or marks p Neither) ≡ true → (ltb q (length marks) && mark_accepts (get_or marks q Neither)) ≡ allowed marks p q
@@ -60,19 +34,34 @@ module _ (marks : List Mark) (p q : ℕ) where
   unfolding allowed
   allowed_column hq = grind (arith, nat_tests)
 
--- the words are those of the pairs that are allowed
-pub filled : (marks : List Mark) (rows : List ℕ) → length marks ≤ 256 → length rows ≡ 1024
-    → ((i : ℕ) → i < 1024 → (q : ℕ) → q / 64 ≡ i % 4 → bit (get_or rows i 0) (q % 64) ≡ allowed marks (i / 4) q) → (p q : ℕ) → pair rows p q ≡ allowed marks p q
-unfolding pair
-filled marks rows few long words p q = elim (cases_lt q 256) [
-  | inl hq ↦ elim (cases_lt p 256) [
-    | inl hp ↦
-        let row : (4 * p + q / 64) / 4 ≡ p = omega arith in
-        let word : q / 64 ≡ (4 * p + q / 64) % 4 = omega arith in
-        pair_at rows p q hq ∙ words (4 * p + q / 64) (omega arith) q word ∙ ap (λ y. allowed marks y q) row
-    | inr hp ↦
-        let z : get_or rows (4 * p + q / 64) 0 ≡ 0 = get_or_past rows (4 * p + q / 64) 0 (omega arith) in
-        pair_at rows p q hq ∙ ap (λ w. bit w (q % 64)) z ∙ bit_zero (q % 64) ∙ allowed_row marks p q (omega arith)
-  ]
-  | inr hq ↦ rw (le-ltb q 256 hq) (allowed_column marks p q (omega arith))
+-- a row of bits by what was asked of each state
+pub row_of : (A : ℕ → Bool) (row : List ℕ) (n : ℕ) → ((q : ℕ) → q < n → pair row 0 q ≡ A q) → ((q : ℕ) → n ≤ q → pair row 0 q ≡ false) → (q : ℕ) → pair row 0 q ≡ (ltb q n && A q)
+row_of A row n tested past q = elim (cases_lt q n) [
+  | inl h ↦ tested q h ∙ ap (λ b. b && A q) (sym (lt-ltb q n h))
+  | inr h ↦ past q h ∙ ap (λ b. b && A q) (sym (le-ltb q n h))
+]
+
+-- the same where the mark of what is no state passes no test
+pub marked : (f : Mark → Bool) (marks : List Mark) (row : List ℕ) → f Neither ≡ false → ((q : ℕ) → q < length marks → pair row 0 q ≡ f (get_or marks q Neither)) → ((q : ℕ) → length marks ≤ q → pair row 0 q ≡ false)
+    → (q : ℕ) → pair row 0 q ≡ f (get_or marks q Neither)
+marked f marks row none tested past q = elim (cases_lt q (length marks)) [
+  | inl h ↦ tested q h
+  | inr h ↦ past q h ∙ sym none ∙ ap f (sym (get_or_past marks q Neither h))
+]
+
+-- one row more
+pub filled_more : (marks : List Mark) (old new row : List ℕ) (p : ℕ) → ((i q : ℕ) → pair old i q ≡ (ltb i p && allowed marks i q)) → ((q : ℕ) → pair new p q ≡ pair row 0 q) → ((q : ℕ) → pair row 0 q ≡ allowed marks p q)
+    → ((i q : ℕ) → (i ≡ p → ⊥) → pair new i q ≡ pair old i q) → (i q : ℕ) → pair new i q ≡ (ltb i (p + 1) && allowed marks i q)
+filled_more marks old new row p was here is others i q = elim (cases_eq i p) [
+  | inl e ↦ rw e (here q ∙ is q ∙ ap (λ b. b && allowed marks p q) (sym (lt-ltb p (p + 1) (omega arith))))
+  | inr ne ↦ others i q ne ∙ was i q ∙ ap (λ b. b && allowed marks i q) (below i p ne)
+]
+  where
+    below : (i p : ℕ) → (i ≡ p → ⊥) → ltb i p ≡ ltb i (p + 1)
+    below i p ne = grind (arith, nat_tests)
+
+pub filled_all : (marks : List Mark) (rows : List ℕ) (p : ℕ) → length marks ≤ p → ((i q : ℕ) → pair rows i q ≡ (ltb i p && allowed marks i q)) → (i q : ℕ) → pair rows i q ≡ allowed marks i q
+filled_all marks rows p top was i q = was i q ∙ elim (cases_lt i (length marks)) [
+  | inl h ↦ ap (λ b. b && allowed marks i q) (lt-ltb i p (omega arith))
+  | inr h ↦ ap (λ b. ltb i p && b) (sym (allowed_row marks i q h)) ∙ and_right (ltb i p) false refl ∙ allowed_row marks i q h
 ]

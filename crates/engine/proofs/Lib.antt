@@ -9,3 +9,4 @@ pub mod Filling
 pub mod Waking
 pub mod Settled
 pub mod Stepping
+pub mod Downward

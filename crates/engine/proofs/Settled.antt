@@ -1,5 +1,5 @@
 -- The pairs that are left at the end are the greatest simulation. Assumes nothing.
-use Rattle.std.proofs.Common.{◌≡◌, ℕ, ◌<◌, ◌≤◌, Bool, true, false, not, ◌&&◌, ◌||◌, ltb, ◌⊎◌, List, length, get_or, sym, ap, ◌∙◌, subst, inl, inr}
+use Rattle.std.proofs.Common.{◌≡◌, ℕ, ◌<◌, ◌≤◌, Bool, true, false, not, ◌&&◌, ◌||◌, ltb, ◌⊎◌, List, length, get_or, sym, ◌∙◌, inl, inr}
 use Rattle.std.proofs.lemmas.Bool.{and_parts, or_cases, or_left, or_right, and_from, lt-ltb, cases_Bool, not-true, not_from_false, both_ways}
 use Rattle.bits.specs.Matrix.{pair}
 use Rattle.automata.specs.declared.Arrow.{Arrow}
@@ -7,8 +7,7 @@ use Rattle.automata.specs.declared.Mark.{Mark}
 use Rattle.automata.specs.declared.Mark.TheVariants.{Neither}
 use Rattle.automata.specs.Automata.{automaton, mark_accepts}
 use Rattle.automata.specs.Simulation.{Wide, Greatest}
-use Rattle.engine.specs.declared.columns.Indexed.{Indexed}
-use Rattle.engine.specs.Columns.{allowed, machine, size, Answered}
+use Rattle.engine.specs.Columns.{allowed, Answered}
 use Rattle.engine.proofs.Filling.{allowed_row, allowed_column}
 use Rattle.engine.proofs.Reading.{passes, passed}
 
@@ -39,30 +38,19 @@ settled_empty marks first last filled fewer p q out = elim (cases_Bool (pair las
   | inr off ↦ off
 ]
 
-module _ {P V : Type 0} (h : P → V → Bool) where
-  -- the first fill loses no simulation
-  filled_wide : (marks : List Mark) (xs : List (Arrow P)) (first : List ℕ) → ((p q : ℕ) → pair first p q ≡ allowed marks p q) → Wide (automaton h marks xs) (pair first)
-  filled_wide marks xs first filled R s p q hp hq r = passes (pair first p q) (filled p q ∙ allowed_from marks p q hp hq
+-- from the first fill on, which loses no simulation, to answered pairs
+module _ {P V : Type 0} (h : P → V → Bool) (marks : List Mark) (xs : List (Arrow P)) (first : List ℕ) (filled : (p q : ℕ) → pair first p q ≡ allowed marks p q) where
+  pub filled_wide : Wide (automaton h marks xs) (pair first)
+  filled_wide R s p q hp hq r = passes (pair first p q) (filled p q ∙ allowed_from marks p q hp hq
       (λ a. passed (mark_accepts (get_or marks q Neither)) (s.accepts hp hq r (passes (mark_accepts (get_or marks p Neither)) a))))
 
-  greatest : (b : Indexed P) (first last : List ℕ) → ((p q : ℕ) → pair first p q ≡ allowed b.marks.now p q) → ((p q : ℕ) → pair last p q ≡ true → pair first p q ≡ true)
-      → Wide (machine h b) (pair last) → ((p q : ℕ) → q < size b → pair last p q ≡ true → Answered (machine h b) (pair last) p q) → Greatest (machine h b) (pair last)
-  greatest b first last filled fewer wide answered = record {
+  pub greatest : (last : List ℕ) → ((p q : ℕ) → pair last p q ≡ true → pair first p q ≡ true) → Wide (automaton h marks xs) (pair last)
+      → ((p q : ℕ) → q < length marks → pair last p q ≡ true → Answered (automaton h marks xs) (pair last) p q) → Greatest (automaton h marks xs) (pair last)
+  greatest last fewer wide answered = record {
     simulation = record {
-      accepts = λ {p} {q} hp hq k a. passes (mark_accepts (get_or b.marks.now q Neither))
-          (allowed_accepts b.marks.now p q (sym (filled p q) ∙ fewer p q (passed (pair last p q) k)) (passed (mark_accepts (get_or b.marks.now p Neither)) a));
+      accepts = λ {p} {q} hp hq k a. passes (mark_accepts (get_or marks q Neither))
+          (allowed_accepts marks p q (sym (filled p q) ∙ fewer p q (passed (pair last p q) k)) (passed (mark_accepts (get_or marks p Neither)) a));
       follows = λ {p} {q} hp hq k {a} {p'} hp' r. answered p q hq (passed (pair last p q) k) a p' hp' r;
     };
     contains = wide;
   }
-
-  -- the same of the marks and arrows that were indexed
-  pub started : (b : Indexed P) (marks : List Mark) → b.marks.now ≡ marks → (first : List ℕ) → ((p q : ℕ) → pair first p q ≡ allowed marks p q) → Wide (machine h b) (pair first)
-  started b marks m first filled = filled_wide b.marks.now b.arrows.now first (λ p q. filled p q ∙ ap (λ y. allowed y p q) (sym m))
-
-  pub settled : (b : Indexed P) (marks : List Mark) (xs : List (Arrow P)) → b.marks.now ≡ marks → b.arrows.now ≡ xs → (first last : List ℕ)
-      → ((p q : ℕ) → pair first p q ≡ allowed marks p q) → ((p q : ℕ) → pair last p q ≡ true → pair first p q ≡ true)
-      → Wide (machine h b) (pair last) → ((p q : ℕ) → q < size b → pair last p q ≡ true → Answered (machine h b) (pair last) p q) → Greatest (automaton h marks xs) (pair last)
-  settled b marks xs m x first last filled fewer wide answered =
-      subst (λ y. Greatest (automaton h y xs) (pair last)) m (subst (λ y. Greatest (automaton h b.marks.now y) (pair last)) x
-      (greatest b first last (λ p q. filled p q ∙ ap (λ y. allowed y p q) (sym m)) fewer wide answered))

@@ -1,8 +1,8 @@
 -- Pairs that go from a column: none of them is of a simulation, and what stays is answered. Assumes nothing.
-use Rattle.std.proofs.Common.{◌≡◌, ℕ, ◌+◌, ◌<◌, ◌≤◌, Bool, true, false, T, eqb, List, length, get_or, Decides, sym, refl, ap, ◌∙◌, subst, inl, inr, arith}
+use Rattle.std.proofs.Common.{◌≡◌, ℕ, ◌+◌, ◌<◌, ◌≤◌, Bool, true, false, T, eqb, List, length, get_or, Decides, sym, ap, ◌∙◌, subst, inl, inr, arith}
 use lib.Dec.{eqb_refl}
-use Rattle.std.specs.List.{AllByRecursion}
-use Rattle.std.proofs.ByRecursion.{All-get_or, All-weaker, all_from_every}
+use Rattle.std.specs.List.{All, AllByRecursion, HoldsAt}
+use Rattle.std.proofs.ByRecursion.{All-weaker, all_from_every}
 use Rattle.std.proofs.lemmas.Bool.{cases_eq, both_ways}
 use Rattle.bits.specs.Matrix.{pair, Changed}
 use Rattle.automata.specs.declared.Arrow.{Arrow}
@@ -10,17 +10,16 @@ use Rattle.automata.specs.declared.Mark.{Mark}
 use Rattle.automata.specs.Automata.{Automaton, automaton, Within}
 use Rattle.automata.specs.Simulation.{Answer, Simulation, Wide}
 use Rattle.automata.proofs.Simulations.{simulations}
-use Rattle.engine.specs.Sorting.{Segment, sources, targets}
+use Rattle.engine.specs.declared.index.End.TheVariants.{Target}
+use Rattle.engine.specs.declared.index.Entry.{Entry}
+use Rattle.engine.specs.Indexing.{Listed}
 use Rattle.engine.specs.Columns.{Gathered, Swept, Only, Answered, Met}
 use Rattle.engine.proofs.Sums.{pairs_less}
 use Rattle.engine.proofs.Gathering.{same_pair, changed_fewer}
-use Rattle.engine.proofs.Places.{Placed, placed_more, placed_all, key_at, end_at}
+use Rattle.engine.proofs.Places.{entry_at, Placed, placed_more, placed_all, place_at}
 use Rattle.engine.proofs.Reading.{passes, passed, at_get_or, reads_at, reads_by}
 
 module _ {V : Type 0} (M : Automaton V) where
-  pub swept_none : (old : List ℕ) → Swept M old old 0
-  swept_none old = record { count = omega arith; fewer = λ p q e. e; wide = λ w. w; still = λ _. refl }
-
   pub swept_then : (old mid new : List ℕ) (j k : ℕ) → Swept M old mid j → Swept M mid new k → Swept M old new (j + k)
   swept_then old mid new j k a b = record {
     count = omega (arith, a.count, b.count);
@@ -57,75 +56,70 @@ module _ {P V : Type 0} (h : P → V → Bool) (marks : List Mark) (xs : List (A
 
   -- ---- one target
 
-  module _ (t : ℕ) (places : List ℕ) (lo : ℕ) (old : List ℕ) where
+  -- no other state that is kept below q has an arrow to t, and q answers itself
+  pub met_apart : (t : ℕ) (old preds below : List ℕ) → All (Within (length marks)) xs → All (λ x. pair preds x.target x.source ≡ true) xs → Wide (automaton h marks xs) (pair old) → Gathered (length marks) q old below
+      → ((p : ℕ) → pair preds t p ≡ true → pair below 0 p ≡ true → ⊥) → AllByRecursion (Met h (automaton h marks xs) old old q t) xs
+  met_apart t old preds below within has wide g apart = all_from_every (Met h (automaton h marks xs) old old q t) xs (λ k d _ lt e on a l.
+      let x = get_or xs k d in
+      let w = within k d lt in
+      let ht : t < length marks = subst (λ y. y < length marks) e w.1 in
+      elim (cases_eq x.source q) [
+        | inl s ↦ record { to = t; here = ht; read = reads_at h xs q t a k d lt s e l; kept = wide eqb ((simulations V).identity (automaton h marks xs)) t t ht ht (eqb_refl t) }
+        | inr ne ↦ absurd (apart x.source (ap (λ y. pair preds y x.source) (sym e) ∙ has k d lt) (g x.source w.0 ne on))
+      ])
+
+  module _ (t : ℕ) (es : List Entry) (old : List ℕ) where
     -- so far
     abbrev pub Striking : List ℕ → ℕ → ℕ → Type 0
-    Striking new k i = Swept (automaton h marks xs) old new k × Only q old new × Placed (Met h (automaton h marks xs) old new q t) xs places lo i
+    Striking new k i = Swept (automaton h marks xs) old new k × Only q old new × Placed (Met h (automaton h marks xs) old new q t) xs es i
 
-    pub striking_none : Striking old 0 lo
-    striking_none = (swept_none (automaton h marks xs) old, (λ _ _ _. refl), λ j l u. absurd (omega arith))
+    module _ (s : Listed Target xs t es) where
+      module _ (i : ℕ) (lt : i < length es) where
+        -- an arrow whose source is not kept is met
+        left_out : (new : List ℕ) → pair new (entry_at es i).end q ≡ false → HoldsAt (Met h (automaton h marks xs) old new q t) xs (entry_at es i).place
+        left_out new off d f k = absurd (both_ways (pair new (get_or xs (entry_at es i).place d).source q) (ap (λ y. pair new y q) ((place_at Target xs t es s i lt).2 d) ∙ off) k)
 
-    -- no other state that is kept below q has an arrow to t, and q answers itself
-    pub met_apart : (preds below : List ℕ) → AllByRecursion (Within (length marks)) xs → AllByRecursion (λ x. pair preds x.target x.source ≡ true) xs → Wide (automaton h marks xs) (pair old) → Gathered (length marks) q old below
-        → ((p : ℕ) → pair preds t p ≡ true → pair below 0 p ≡ true → ⊥) → AllByRecursion (Met h (automaton h marks xs) old old q t) xs
-    met_apart preds below within has wide g apart = all_from_every (Met h (automaton h marks xs) old old q t) xs (λ k d _ lt e on a l.
-        let x = get_or xs k d in
-        let w = All-get_or (Within (length marks)) xs k d lt within in
-        let ht : t < length marks = subst (λ y. y < length marks) e w.1 in
-        elim (cases_eq x.source q) [
-          | inl s ↦ record { to = t; here = ht; read = reads_at h xs q t a k d lt s e l; kept = wide eqb ((simulations V).identity (automaton h marks xs)) t t ht ht (eqb_refl t) }
-          | inr ne ↦ absurd (apart x.source (ap (λ y. pair preds y x.source) (sym e) ∙ All-get_or (λ x. pair preds x.target x.source ≡ true) xs k d lt has) (g.has x.source w.0 ne on))
-        ])
+        pub striking_past : (new : List ℕ) (k : ℕ) → pair new (entry_at es i).end q ≡ false → Striking new k i → Striking new k (i + 1)
+        striking_past new k off was =
+            (was.0, was.1, placed_more (Met h (automaton h marks xs) old new q t) (Met h (automaton h marks xs) old new q t) xs es i lt (λ x m. m) (left_out new off) was.2)
 
-    module _ (ends : List ℕ) (hi : ℕ) (s : Segment (targets xs) (sources xs) (length xs) places ends t lo hi) where
-      source_at : (i : ℕ) → lo ≤ i → i < hi → (d : Arrow P) → (get_or xs (get_or places i 0) d).source ≡ get_or ends i 0
-      source_at i l u = end_at (λ x. x.target) (λ x. x.source) xs places ends t lo hi s i l u
+        -- the arrow as it was read, and the join
+        module _ (j : ℕ) (d : Arrow P) (is : j ≡ (entry_at es i).place) (all : P) (join : (a : V) → Decides (h all a) (Answer (automaton h marks xs) (pair old) q a t)) where
+          -- the label is within the join
+          pub striking_met : (new : List ℕ) (k : ℕ) → ((a : V) → h (get_or xs j d).label a ≡ true → h all a ≡ true) → Striking new k i → Striking new k (i + 1)
+          striking_met new k within was =
+              let M = Met h (automaton h marks xs) old new q t in
+              let lj : j < length xs = omega (arith, is, (place_at Target xs t es s i lt).0) in (
+                was.0,
+                was.1,
+                placed_more M M xs es i lt (λ x m. m) (subst (HoldsAt M xs) is (at_get_or M xs j d lj (λ f k a u. (join a).0 (within a u)))) was.2,
+              )
 
-      -- an arrow whose source is not kept is met
-      left_out : (new : List ℕ) (i : ℕ) → lo ≤ i → i < hi → pair new (get_or ends i 0) q ≡ false → (d : Arrow P) → Met h (automaton h marks xs) old new q t (get_or xs (get_or places i 0) d)
-      left_out new i l u off d e k = absurd (both_ways (pair new (get_or xs (get_or places i 0) d).source q) (ap (λ y. pair new y q) (source_at i l u d) ∙ off) k)
+          -- it is not, and the pair goes
+          pub striking_more : (mid new : List ℕ) (k p : ℕ) → p ≡ (entry_at es i).end → All (Within (length marks)) xs → q < length marks → pair mid p q ≡ true
+              → (((a : V) → h (get_or xs j d).label a ≡ true → h all a ≡ true) → ⊥) → Changed false mid new p q → Striking mid k i → Striking new (k + 1) (i + 1)
+          striking_more mid new k p end within hq kept unfit c was =
+              let M = automaton h marks xs in
+              let r = place_at Target xs t es s i lt in
+              let lj : j < length xs = omega (arith, is, r.0) in
+              let to = subst (HoldsAt (λ y. y.target ≡ t) xs) (sym is) r.1 d in
+              let from = subst (HoldsAt (λ y. y.source ≡ (entry_at es i).end) xs) (sym is) r.2 d ∙ sym end in
+              let w = within j d lj in
+              let hp : p < length marks = subst (λ y. y < length marks) from w.0 in
+              let ht : t < length marks = subst (λ y. y < length marks) to w.1 in (
+                swept_more M old mid new k p q hp hq kept
+                    (λ o R sim u. unfit (λ a f. (join a).1
+                    (let m = sim.follows hp hq u ht (reads_at h xs p t a j d lj from to f) in
+                    record { to = m.to; here = m.here; read = m.read; kept = o R sim t m.to ht m.here m.kept })))
+                    c was.0,
+                (λ i j ne. c.others i j (λ _. ne) ∙ was.1 i j ne),
+                placed_more (Met h M old mid q t) (Met h M old new q t) xs es i lt (met_later old mid new t (changed_fewer mid new p q c)) (left_out new (ap (λ y. pair new y q) (sym end) ∙ c.here)) was.2,
+              )
 
-      pub striking_past : (new : List ℕ) (k i : ℕ) → lo ≤ i → i < hi → pair new (get_or ends i 0) q ≡ false → Striking new k i → Striking new k (i + 1)
-      striking_past new k i l u off was =
-          (was.0, was.1, placed_more (Met h (automaton h marks xs) old new q t) (Met h (automaton h marks xs) old new q t) xs places lo i (λ x m. m) (left_out new i l u off) was.2)
-
-      module _ (all : P) (join : (a : V) → Decides (h all a) (Answer (automaton h marks xs) (pair old) q a t)) where
-        -- the label is within the join
-        pub striking_met : (new : List ℕ) (k i : ℕ) (d : Arrow P) → lo ≤ i → i < hi → ((a : V) → h (get_or xs (get_or places i 0) d).label a ≡ true → h all a ≡ true) → Striking new k i → Striking new k (i + 1)
-        striking_met new k i d l u within was = (
-          was.0,
-          was.1,
-          placed_more (Met h (automaton h marks xs) old new q t) (Met h (automaton h marks xs) old new q t) xs places lo i (λ x m. m)
-              (at_get_or (Met h (automaton h marks xs) old new q t) xs (get_or places i 0) d (s.place i l u) (λ e k a f. (join a).0 (within a f))) was.2,
-        )
-
-        -- it is not, and the pair goes
-        pub striking_more : (mid new : List ℕ) (k i : ℕ) (d : Arrow P) → AllByRecursion (Within (length marks)) xs → q < length marks → lo ≤ i → i < hi → pair mid (get_or ends i 0) q ≡ true
-            → (((a : V) → h (get_or xs (get_or places i 0) d).label a ≡ true → h all a ≡ true) → ⊥) → Changed false mid new (get_or ends i 0) q → Striking mid k i → Striking new (k + 1) (i + 1)
-        striking_more mid new k i d within hq l u kept unfit c was =
-            let M = automaton h marks xs in
-            let p = get_or ends i 0 in
-            let j = get_or places i 0 in
-            let lt = s.place i l u in
-            let x = get_or xs j d in
-            let at : x.source ≡ p = source_at i l u d in
-            let to : x.target ≡ t = key_at (λ x. x.target) (λ x. x.source) xs places ends t lo hi s i l u d in
-            let w = All-get_or (Within (length marks)) xs j d lt within in
-            let hp : p < length marks = subst (λ y. y < length marks) at w.0 in
-            let ht : t < length marks = subst (λ y. y < length marks) to w.1 in (
-              swept_more M old mid new k p q hp hq kept
-                  (λ o R sim r. unfit (λ a f. (join a).1
-                  (let m = sim.follows hp hq r ht (reads_at h xs p t a j d lt at to f) in
-                  record { to = m.to; here = m.here; read = m.read; kept = o R sim t m.to ht m.here m.kept })))
-                  c was.0,
-              (λ i j ne. c.others i j (λ _. ne) ∙ was.1 i j ne),
-              placed_more (Met h M old mid q t) (Met h M old new q t) xs places lo i (met_later old mid new t (changed_fewer mid new p q c)) (left_out new i l u c.here) was.2,
-            )
-
-      pub striking_all : (new : List ℕ) (k i : ℕ) → hi ≤ i → Striking new k i → AllByRecursion (Met h (automaton h marks xs) old new q t) xs
+      pub striking_all : (new : List ℕ) (k i : ℕ) → length es ≤ i → Striking new k i → AllByRecursion (Met h (automaton h marks xs) old new q t) xs
       striking_all new k i top was =
           let M = Met h (automaton h marks xs) old new q t in
-          All-weaker (λ x. x.target ≡ t → M x) M (λ x w e. w e e) xs (placed_all (λ x. x.target) (λ x. x.source) xs places ends t lo hi s M i top was.2)
+          All-weaker (λ x. x.target ≡ t → M x) M (λ x w e. w e e) xs (placed_all Target xs t es s M i top was.2)
 
   -- ---- all targets
 

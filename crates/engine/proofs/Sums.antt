@@ -1,5 +1,7 @@
 -- Sums and counts over the numbers below a bound, and how many pairs there are. Assumes nothing.
-use Rattle.std.proofs.Common.{◌≡◌, ℕ, zero, suc, ◌+◌, ◌*◌, ◌<◌, ◌≤◌, Bool, true, false, cond, refl, ap, inl, inr, add-one, arith}
+use Rattle.std.proofs.Common.{◌≡◌, ℕ, zero, suc, ◌+◌, ◌*◌, ◌<◌, ◌≤◌, Bool, true, false, cond, sym, ◌∙◌, refl, ap, inl, inr, add-one, add-zero, zero-add, arith}
+use Rattle.std.specs.List.{sum_by, range_with_len}
+use Rattle.std.proofs.lemmas.List.Sums.{sum_by-cons}
 use Rattle.std.proofs.lemmas.Bool.{cases_eq}
 use Rattle.automata.specs.Below.{sum_to, count, pairs}
 use Rattle.automata.proofs.Below.{count_most}
@@ -62,3 +64,17 @@ pub count_both : (f g h : ℕ → Bool) (n : ℕ) → ((k : ℕ) → cond (f k) 
 unfolding sum_to
 count_both f g h zero each = refl
 count_both f g h (suc n) each = omega (arith, count_both f g h n each, each n)
+
+-- the same sums over the numbers as a list
+sum_from : (f : ℕ → ℕ) (a n : ℕ) → sum_to f a + sum_by f (range_with_len a n) ≡ sum_to f (a + n)
+unfolding sum_to
+sum_from f a zero = let e : a + 0 ≡ a = omega arith in rw (e, add-zero) refl
+sum_from f a (suc n) =
+    let next : sum_to f (a + 1) ≡ sum_to f a + f a = rw add-one refl in
+    let rest : sum_to f a + sum_by f (range_with_len a (suc n)) ≡ sum_to f (a + 1 + n) = omega (arith, next, sum_by-cons f a (range_with_len (a + 1) n), sum_from f (a + 1) n) in
+    let e : a + 1 + n ≡ a + suc n = omega arith in
+    rest ∙ ap (sum_to f) e
+
+pub sum_range : (f : ℕ → ℕ) (n : ℕ) → sum_by f (range_with_len 0 n) ≡ sum_to f n
+unfolding sum_to
+sum_range f n = sym (zero-add (sum_by f (range_with_len 0 n))) ∙ sum_from f 0 n ∙ ap (sum_to f) (zero-add n)

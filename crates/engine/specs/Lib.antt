@@ -1,2 +1,4 @@
+pub mod Ends
 pub mod Sorting
+pub mod Indexing
 pub mod Columns

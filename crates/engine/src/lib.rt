@@ -5,10 +5,12 @@
 // has under 256 KiB of stack. Of the algebra settle uses only `none`, `join` and `is_within`, the word test only `test`.
 #![tactic(auto)]
 
+mod book;
 mod columns;
 mod fill;
 mod index;
 mod settling;
+mod states;
 #[cfg(test)]
 mod tests;
 mod words;

@@ -3,139 +3,110 @@
 // A state's column is computed once, and again only after a pair below one of its successors has gone: a flag for each
 // state says whether it has to be. The flags may be served in any order; they are served upwards and downwards in turn.
 
-ghost use Rattle.std.specs.Prelude.{◌≡◌, ℕ, ◌<◌, ◌≤◌, true, false, ◌⊎◌, length, MatchOption, slice_index_or};
+ghost use Rattle.std.specs.Prelude.{◌≡◌, ℕ, ◌<◌, ◌≤◌, true, false, ◌⊎◌, length, MatchOption, ⊤};
 ghost use Rattle.std.specs.List.{AllByRecursion};
 ghost use Rattle.bits.specs.Matrix.{pair};
 ghost use Rattle.automata.specs.Automata.{automaton, Within};
 ghost use Rattle.automata.specs.Simulation.{Wide, Greatest, Keeps};
 ghost use Rattle.automata.specs.Below.{pairs};
-ghost use Rattle.engine.specs.Columns.{machine, size, Ready, Answered, Woken, Quiet, work};
+ghost use Rattle.engine.specs.Columns.{machine, size, Answered, Woken, Quiet, Found, work};
 
-use crate::columns::{Indexed, column};
-use crate::fill::{count_pairs, fill};
-use crate::index::{predecessors, sort, sources, targets};
+use crate::book::Indexed;
+use crate::fill::fill;
+use crate::index::End;
+use crate::states::states;
 use automata::{Arrow, Mark};
+use bits::Rows;
 use labels::LabelAlgebra;
 
-// Sets the flag of each state with an arrow to `q`.
-fn wake<P: Copy>(book: &Indexed<'_, '_, P>, q: usize, flags: &mut [bool])
-    requires flags { length flags.old ≡ 256 }
-    requires ready { Ready book.now }
-    requires state { q < size book.now }
-    ensures woken { AllByRecursion (Woken q flags.new) book.now.arrows.now }
-    ensures stays { (i : ℕ) → slice_index_or flags.old i false ≡ true → slice_index_or flags.new i false ≡ true }
-{
-    for i in book.entering.low[q] as usize..book.entering.high[q] as usize {
-        flags[book.entering.ends[i] as usize] = true;
-    }
+// The way in which the flags are served.
+#[derive(Clone, Copy)]
+enum Way {
+    Up,
+    Down,
 }
 
-// Computes the column of `q`, whose flag is set, and sets the flags of the states that may have lost an answer.
-fn visit<L: LabelAlgebra>(
-    labels: &L,
-    book: &Indexed<'_, '_, L::Predicate>,
-    rows: &mut [u64],
-    q: usize,
-    flags: &mut [bool],
-)
-    requires rows { length rows.old ≡ 1024 }
-    requires flags { length flags.old ≡ 256 }
-    requires ready { Ready book.now }
-    requires state { q < size book.now }
-    requires flag { slice_index_or flags.old q false ≡ true }
-    requires wide { Wide (machine (L.LabelAlgebra.holds labels.now) book.now) (pair rows.old) }
-    requires quiet { Quiet (machine (L.LabelAlgebra.holds labels.now) book.now) rows.old flags.old }
-    ensures fewer { (i j : ℕ) → pair rows.new i j ≡ true → pair rows.old i j ≡ true }
-    ensures wide { Wide (machine (L.LabelAlgebra.holds labels.now) book.now) (pair rows.new) }
-    ensures quiet { Quiet (machine (L.LabelAlgebra.holds labels.now) book.now) rows.new flags.new }
-    ensures less { work rows.new (size book.now) flags.new < work rows.old (size book.now) flags.old }
-{
-    flags[q] = false;
-    if column(labels, book, rows, q) != 0 {
-        wake(book, q, flags);
+impl<L, P: Copy> Indexed<'_, L, P> {
+    // The first state from `from` on whose flag is set.
+    fn next_up(&self, flags: &Rows<4>, from: usize) -> Option<usize>
+        ensures found { Found flags.now.words from (size self.now) result }
+        ensures first { MatchOption result ⊤ (λ q. (k : ℕ) → from ≤ k → k < q → pair flags.now.words 0 k ≡ false) }
+    {
+        (from..self.marks.len()).find(|q| flags.keeps(0, *q))
     }
-}
 
-// The first set flag from `from` up, or `n`.
-fn next_up(flags: &[bool], from: usize, n: usize) -> usize
-    requires { (n ≤ length flags.now) × (from ≤ n) }
-    ensures upto { result ≤ n }
-    ensures set { result < n → slice_index_or flags.now result false ≡ true }
-    ensures none { (q : ℕ) → from ≤ q → q < result → slice_index_or flags.now q false ≡ false }
-{
-    for q in from..n {
-        if flags[q] {
-            return q;
+    // The last state below `to` whose flag is set.
+    fn next_down(&self, flags: &Rows<4>, to: usize) -> Option<usize>
+        requires { to ≤ size self.now }
+        ensures { Found flags.now.words 0 to result }
+    {
+        (0..to).rev().find(|q| flags.keeps(0, *q))
+    }
+
+    // A state whose flag is set, if any is: the next one in the way given, or else the next one back.
+    fn next_state(&self, flags: &Rows<4>, at: usize, way: Way) -> Option<usize>
+        requires { at ≤ size self.now }
+        ensures { Found flags.now.words 0 (size self.now) result }
+    {
+        // Tried with `or_else`, and the proof did not close: its closure on a generic `self` tells nothing of the result.
+        match way {
+            Way::Up => match self.next_up(flags, at) {
+                None => self.next_down(flags, at),
+                found => found,
+            },
+            Way::Down => match self.next_down(flags, at) {
+                None => self.next_up(flags, at),
+                found => found,
+            },
         }
     }
-    n
 }
 
-// The last set flag below `upto`.
-fn next_down(flags: &[bool], upto: usize) -> Option<usize>
-    requires { upto ≤ length flags.now }
-    ensures { MatchOption result ((q : ℕ) → q < upto → slice_index_or flags.now q false ≡ false) (λ q. (q < upto) × (slice_index_or flags.now q false ≡ true)) }
-{
-    for q in (0..upto).rev() {
-        if flags[q] {
-            return Some(q);
+impl<L: LabelAlgebra> Indexed<'_, L, L::Predicate> {
+    // Sets the flag of each state with an arrow to `q`.
+    fn wake(&self, q: usize, flags: &mut Rows<4>)
+        requires { q < size self.now }
+        ensures woken { AllByRecursion (Woken q flags.new.words) self.now.arrows.now }
+        ensures stays { (i : ℕ) → pair flags.old.words 0 i ≡ true → pair flags.new.words 0 i ≡ true }
+    {
+        for entry in self.entries(End::Target, q) {
+            flags.set(0, usize::from(entry.end), true);
         }
     }
-    None
-}
 
-// A state whose flag is set, if any is: the next one in the direction given, or else the next one back.
-fn next_state(flags: &[bool], n: usize, at: usize, down: bool) -> Option<usize>
-    requires { (n ≤ length flags.now) × (at ≤ n) }
-    ensures { MatchOption result ((q : ℕ) → q < n → slice_index_or flags.now q false ≡ false) (λ q. (q < n) × (slice_index_or flags.now q false ≡ true)) }
-{
-    if down {
-        if let Some(q) = next_down(flags, at) {
-            return Some(q);
+    // Computes the column of `q`, whose flag is set, and sets the flags of the states that may have lost an answer.
+    fn visit(&self, rows: &mut Rows<1024>, q: usize, flags: &mut Rows<4>)
+        requires state { q < size self.now }
+        requires flag { pair flags.old.words 0 q ≡ true }
+        requires wide { Wide (machine L.LabelAlgebra.holds self.now) (pair rows.old.words) }
+        requires quiet { Quiet (machine L.LabelAlgebra.holds self.now) rows.old.words flags.old.words }
+        ensures fewer { (i j : ℕ) → pair rows.new.words i j ≡ true → pair rows.old.words i j ≡ true }
+        ensures wide { Wide (machine L.LabelAlgebra.holds self.now) (pair rows.new.words) }
+        ensures quiet { Quiet (machine L.LabelAlgebra.holds self.now) rows.new.words flags.new.words }
+        ensures less { work rows.new.words (size self.now) flags.new.words < work rows.old.words (size self.now) flags.old.words }
+    {
+        flags.set(0, q, false);
+        if self.column(rows, q) != 0 {
+            self.wake(q, flags);
         }
     }
-    let from = if down { 0 } else { at };
-    let q = next_up(flags, from, n);
-    if q < n { Some(q) } else { next_down(flags, n) }
-}
 
-// Serves the flags until none is set.
-fn sweep<L: LabelAlgebra>(labels: &L, book: &Indexed<'_, '_, L::Predicate>, rows: &mut [u64])
-    requires rows { length rows.old ≡ 1024 }
-    requires ready { Ready book.now }
-    requires wide { Wide (machine (L.LabelAlgebra.holds labels.now) book.now) (pair rows.old) }
-    ensures fewer { (i j : ℕ) → pair rows.new i j ≡ true → pair rows.old i j ≡ true }
-    ensures wide { Wide (machine (L.LabelAlgebra.holds labels.now) book.now) (pair rows.new) }
-    ensures answered { (p q : ℕ) → q < size book.now → pair rows.new p q ≡ true → Answered (machine (L.LabelAlgebra.holds labels.now) book.now) (pair rows.new) p q }
-{
-    let n = book.marks.len();
-    let mut flags = [true; 256];
-    let mut at = 0;
-    let mut down = false;
-    while let Some(q) = next_state(&flags, n, at, down) {
-        visit(labels, book, rows, q, &mut flags);
-        down = q < at;
-        at = q;
-    }
-}
-
-// Indexes a book's arrows by both ends.
-fn indexed<'m, 'a, P: Copy>(marks: &'m [Mark], arrows: &'a [Arrow<P>]) -> Indexed<'m, 'a, P>
-    requires states { length marks.now ≤ 256 }
-    requires arrows { length arrows.now ≤ 8192 }
-    requires within { AllByRecursion (Within (length marks.now)) arrows.now }
-    ensures marks { result.marks.now ≡ marks.now }
-    ensures arrows { result.arrows.now ≡ arrows.now }
-    ensures ready { Ready result }
-{
-    let from = sources(arrows);
-    let to = targets(arrows);
-    Indexed {
-        marks,
-        arrows,
-        leaving: sort(&from, &to, arrows.len()),
-        entering: sort(&to, &from, arrows.len()),
-        preds: predecessors(arrows),
+    // Serves the flags until none is set.
+    fn sweep(&self, rows: &mut Rows<1024>)
+        requires { Wide (machine L.LabelAlgebra.holds self.now) (pair rows.old.words) }
+        ensures fewer { (i j : ℕ) → pair rows.new.words i j ≡ true → pair rows.old.words i j ≡ true }
+        ensures wide { Wide (machine L.LabelAlgebra.holds self.now) (pair rows.new.words) }
+        ensures answered { (p q : ℕ) → q < size self.now → pair rows.new.words p q ≡ true → Answered (machine L.LabelAlgebra.holds self.now) (pair rows.new.words) p q }
+    {
+        let mut flags = states(self.marks.len(), |_| true);
+        let mut at = 0;
+        let mut way = Way::Up;
+        // No pass over the states: each visit may set flags that were passed.
+        while let Some(q) = self.next_state(&flags, at, way) {
+            self.visit(rows, q, &mut flags);
+            way = if q < at { Way::Down } else { Way::Up };
+            at = q;
+        }
     }
 }
 
@@ -144,19 +115,18 @@ pub fn settle<L: LabelAlgebra>(
     labels: &L,
     arrows: &[Arrow<L::Predicate>],
     marks: &[Mark],
-    rows: &mut [u64],
+    rows: &mut Rows<1024>,
 ) -> usize
-    requires rows { length rows.old ≡ 1024 }
     requires states { length marks.now ≤ 256 }
     requires arrows { length arrows.now ≤ 8192 }
     requires within { AllByRecursion (Within (length marks.now)) arrows.now }
-    ensures keeps { Keeps (automaton (L.LabelAlgebra.holds labels.now) marks.now arrows.now) (pair rows.new) }
-    ensures greatest { Greatest (automaton (L.LabelAlgebra.holds labels.now) marks.now arrows.now) (pair rows.new) }
-    ensures empty { (p q : ℕ) → (length marks.now ≤ p) ⊎ (length marks.now ≤ q) → pair rows.new p q ≡ false }
-    ensures count { result ≡ pairs (pair rows.new) (length marks.now) }
+    ensures keeps { Keeps (automaton (L.LabelAlgebra.holds labels.now) marks.now arrows.now) (pair rows.new.words) }
+    ensures greatest { Greatest (automaton (L.LabelAlgebra.holds labels.now) marks.now arrows.now) (pair rows.new.words) }
+    ensures empty { (p q : ℕ) → (length marks.now ≤ p) ⊎ (length marks.now ≤ q) → pair rows.new.words p q ≡ false }
+    ensures count { result ≡ pairs (pair rows.new.words) (length marks.now) }
 {
     fill(marks, rows);
-    let book = indexed(marks, arrows);
-    sweep(labels, &book, rows);
-    count_pairs(rows, marks.len())
+    let book = Indexed::new(labels, marks, arrows);
+    book.sweep(rows);
+    book.count(rows)
 }

@@ -1,60 +1,35 @@
 // The word test: which states the word so far may have led to, symbol by symbol.
 //
-// A flag for each state says whether it is live. Each symbol costs one pass over the arrows; a value that is no symbol is
-// read by nothing, so that no state is live after it.
+// Each symbol costs one pass over the arrows; a value that is no symbol is read by nothing, so that no state is live
+// after it.
 
-ghost use Rattle.std.specs.Prelude.{◌≡◌, ℕ, ◌<◌, ◌≤◌, true, false, T, ◌⊎◌, length, Decides, slice_index_or};
+ghost use Rattle.std.specs.Prelude.{◌≡◌, ℕ, ◌≤◌, true, T, length, Decides};
 ghost use Rattle.std.specs.List.{AllByRecursion};
-ghost use Rattle.automata.specs.declared.Mark.TheVariants.{Neither};
-ghost use Rattle.automata.specs.Automata.{automaton, some_label, leads, mark_is_start, mark_accepts, Within, Accepts};
+ghost use Rattle.bits.specs.Matrix.{pair};
+ghost use Rattle.automata.specs.Automata.{automaton, some_label, leads, Within, Accepts};
 
+use crate::states::states;
 use automata::{Arrow, Mark};
+use bits::Rows;
 use labels::LabelAlgebra;
 
-// Adds to `next` each state to which a live one reads `value`.
-pub fn step<L: LabelAlgebra>(
+// The states to which a live one reads `value`.
+fn step<L: LabelAlgebra>(
     labels: &L,
     arrows: &[Arrow<L::Predicate>],
-    live: &[bool],
+    live: &Rows<4>,
     value: L::Value,
-    next: &mut [bool],
-)
-    requires live { length live.now ≡ 256 }
-    requires next { length next.old ≡ 256 }
-    requires within { AllByRecursion (Within 256) arrows.now }
-    ensures { (q : ℕ) → Decides (slice_index_or next.new q false) ((slice_index_or next.old q false ≡ true) ⊎ ((p : ℕ) × (slice_index_or live.now p false ≡ true) × T (some_label (L.LabelAlgebra.holds labels.now) (leads p q) arrows.now value))) }
+) -> Rows<4>
+    requires { AllByRecursion (Within 256) arrows.now }
+    ensures { (q : ℕ) → Decides (pair result.words 0 q) ((p : ℕ) × (pair live.now.words 0 p ≡ true) × T (some_label (L.LabelAlgebra.holds labels.now) (leads p q) arrows.now value)) }
 {
+    let mut next = Rows::empty();
     for x in arrows {
-        if live[x.source as usize] && labels.test(x.label, value) {
-            next[x.target as usize] = true;
+        if live.keeps(0, usize::from(x.source)) && labels.test(x.label, value) {
+            next.set(0, usize::from(x.target), true);
         }
     }
-}
-
-// The initial states.
-fn initials(marks: &[Mark]) -> [bool; 256]
-    requires { length marks.now ≤ 256 }
-    ensures len { length result ≡ 256 }
-    ensures value { (p : ℕ) → slice_index_or result p false ≡ mark_is_start (slice_index_or marks.now p Neither) }
-{
-    let mut live = [false; 256];
-    for p in 0..marks.len() {
-        live[p] = marks[p].is_initial();
-    }
-    live
-}
-
-// Whether a live state accepts.
-fn some_accepts(marks: &[Mark], live: &[bool]) -> bool
-    requires { length marks.now ≤ length live.now }
-    ensures { Decides result ((p : ℕ) × (p < length marks.now) × (slice_index_or live.now p false ≡ true) × T (mark_accepts (slice_index_or marks.now p Neither))) }
-{
-    for p in 0..marks.len() {
-        if live[p] && marks[p].is_accepting() {
-            return true;
-        }
-    }
-    false
+    next
 }
 
 // Whether the word is accepted.
@@ -68,11 +43,9 @@ pub fn accepts<L: LabelAlgebra>(
     requires within { AllByRecursion (Within (length marks.now)) arrows.now }
     ensures { Decides result (Accepts (automaton (L.LabelAlgebra.holds labels.now) marks.now arrows.now) word.now) }
 {
-    let mut live = initials(marks);
+    let mut live = states(marks.len(), |q| marks[q].is_initial());
     for value in word {
-        let mut next = [false; 256];
-        step(labels, arrows, &live, *value, &mut next);
-        live = next;
+        live = step(labels, arrows, &live, *value);
     }
-    some_accepts(marks, &live)
+    states(marks.len(), |q| marks[q].is_accepting()).meets(0, &live)
 }

@@ -5,74 +5,53 @@
 // the output is tested.
 #![tactic(auto)]
 
-use label_list::{LabelList, Refusal, read_list};
+use input::{Failure, read_input, report};
+use label_list::{LabelList, read_list};
 use labels::{Both, CodePoints, StyleMarks, Sum};
-use ranges::{Range, count, next_marks, next_points};
-use std::io;
-use std::io::Read;
+use ranges::{Range, Ranged, Runs, count};
+use std::{fmt, io};
 
-// Longer inputs are refused unread.
-const MOST: usize = 65_536;
+// A range of code points: its numbers, and its characters where both ends are plain.
+#[derive(Clone, Copy)]
+struct Points(Range);
 
-// A range of style marks, by their numbers.
-fn print_marks(rt: &HostRuntime, range: Range) -> io::Result<()> {
-    let first = range.first;
-    let last = range.last;
-    if first == last {
-        print!(rt; " {first}")
-    } else {
-        print!(rt; " {first}-{last}")
-    }
-}
-
-// Code points that print as themselves on every screen.
-fn is_plain(c: u32) -> bool {
-    c > 32 && c < 127
-}
-
-// A range of code points, by their numbers, and as characters where both ends are plain.
-fn print_points(rt: &HostRuntime, range: Range) -> io::Result<()> {
-    print_marks(rt, range)?;
-    let first = range.first;
-    let last = range.last;
-    if !is_plain(first) || !is_plain(last) {
-        return Ok(());
-    }
-    let from = char::from((first & 127) as u8);
-    let to = char::from((last & 127) as u8);
-    if first == last {
-        print!(rt; " ({from})")
-    } else {
-        print!(rt; " ({from}-{to})")
-    }
-}
-
-// The style marks of a label. A word has at most 32 runs of bits.
-fn print_all_marks(rt: &HostRuntime, p: u64) -> io::Result<()> {
-    let mut from = 0;
-    for _ in 0..32 {
-        let Some(range) = next_marks(p, from) else {
-            break;
+impl fmt::Display for Points {
+    fn fmt<W: fmt::Write>(&self, f: &mut fmt::Formatter<W>) -> fmt::Result {
+        write!(f, "{}", self.0)?;
+        let (Some(from), Some(to)) = (plain(self.0.first), plain(self.0.last)) else {
+            return Ok(());
         };
-        print!(rt; "{}", if from == 0 { "" } else { "," })?;
-        print_marks(rt, range)?;
-        from = range.last.saturating_add(1);
+        if from == to {
+            write!(f, " ({from})")
+        } else {
+            write!(f, " ({from}-{to})")
+        }
     }
-    println!(rt; "{}", if p == 0 { " none" } else { "" })
 }
 
-// The code points of a label.
-fn print_all_points(rt: &HostRuntime, a: &CodePoints, p: u64) -> io::Result<()> {
-    let mut from = 0;
-    for _ in 0..32 {
-        let Some(range) = next_points(a, p, from) else {
-            break;
-        };
-        print!(rt; "{}", if from == 0 { "" } else { "," })?;
-        print_points(rt, range)?;
-        from = range.last.saturating_add(1);
+// A code point that prints as itself on every screen.
+fn plain(c: u32) -> Option<char> {
+    char::from_u32(c).filter(|c| c.is_ascii_graphic())
+}
+
+// The symbols of one side of a label, range by range.
+fn print_all<A: Ranged, T: fmt::Display + Drop, F: Fn(Range) -> T>(
+    rt: &HostRuntime,
+    side: &A,
+    p: u64,
+    show: F,
+) -> io::Result<()>
+    requires { F.IsAlwaysCallable show }
+{
+    let mut runs = Runs::new(side, p);
+    let Some(first) = runs.next() else {
+        return println!(rt; " none");
+    };
+    print!(rt; " {}", show(first))?;
+    for range in runs {
+        print!(rt; ", {}", show(range))?;
     }
-    println!(rt; "{}", if from == 0 { " none" } else { "" })
+    println!(rt; "")
 }
 
 fn print_label(
@@ -84,9 +63,9 @@ fn print_label(
     let left = p.left;
     let right = p.right;
     print!(rt; "label {n}: {left:016x}{right:016x}\n  style marks:")?;
-    print_all_marks(rt, left)?;
+    print_all(rt, &a.left, left, |range| range)?;
     print!(rt; "  code points:")?;
-    print_all_points(rt, &a.right, right)?;
+    print_all(rt, &a.right, right, Points)?;
     let symbols = count(a, p);
     println!(rt; "  symbols: {symbols}")
 }
@@ -96,30 +75,19 @@ fn print_list(rt: &HostRuntime, list: &LabelList) -> io::Result<()> {
         left: StyleMarks,
         right: CodePoints { cuts: list.cuts },
     };
-    let mut n = 0usize;
-    for p in list.labels.iter() {
-        n = n.saturating_add(1);
-        print_label(rt, &a, n, *p)?;
+    for (i, p) in list.labels.iter().enumerate() {
+        print_label(rt, &a, i + 1, *p)?;
     }
-    println!(rt; "explained {n} labels")
+    println!(rt; "explained {} labels", list.labels.len())
+}
+
+fn explain(rt: &HostRuntime) -> Result<(), Failure> {
+    let text = read_input(rt)?;
+    let list = read_list(rt.alloc(), &text)?;
+    print_list(rt, &list)?;
+    Ok(())
 }
 
 fn main(rt: HostRuntime) -> io::Result<()> {
-    let mut text = Vec::new(rt.alloc());
-    let mut input = rt.stdin().take(MOST as u64 + 1);
-    let _n = input.read_to_end(&mut text)?;
-    if text.len() > MOST {
-        return println!(rt; "refused,14,0,65536");
-    }
-    match read_list(rt.alloc(), &text) {
-        Ok(list) => print_list(&rt, &list),
-        Err(Refusal::Fault(fault)) => {
-            let number = fault.number();
-            let place = fault.place();
-            let line = place.line;
-            let offset = place.offset;
-            println!(rt; "refused,{number},{line},{offset}")
-        }
-        Err(Refusal::Memory) => Err(std::alloc::AllocError.into()),
-    }
+    report(&rt, explain(&rt))
 }

@@ -1,12 +1,12 @@
 -- Books that were read from numbers, and written into them. Assumes nothing.
-use Rattle.std.proofs.Common.{◌≡◌, ℕ, ◌-◌, ◌<◌, ◌≤◌, Bool, false, ◌⊎◌, List, [], ◌∷◌, map, length, take, sym, refl, ap, ◌∙◌, subst, arith, length-take-le}
+use Rattle.std.proofs.Common.{◌≡◌, ℕ, ◌<◌, ◌≤◌, Bool, false, ◌⊎◌, List, [], ◌∷◌, map, length, take, sym, refl, ap, ◌∙◌, subst, arith, length-take-le}
 use Rattle.std.specs.List.{AllByRecursion}
 use Rattle.std.proofs.ByRecursion.{All-map}
-use Rattle.std.proofs.lemmas.List.{length-map}
+use Rattle.std.proofs.lemmas.List.{length-map, take-map}
 use Rattle.automata.specs.declared.Arrow.{Arrow}
 use Rattle.automata.specs.declared.Mark.{Mark}
 use Rattle.automata.specs.declared.Mark.TheVariants.{Neither, Initial, Accepting, Both}
-use Rattle.automata.specs.Automata.{Automaton, automaton, Within}
+use Rattle.automata.specs.Automata.{Automaton, automaton}
 use Rattle.automata.specs.Below.{pairs}
 use Rattle.automata.specs.Book.{ReducedBook}
 use Rattle.automata.specs.Minimal.{Minimal}
@@ -14,43 +14,42 @@ use Rattle.automata.specs.Reduction.{reduced_ends}
 use Rattle.automata.specs.Simulation.{Greatest, Keeps}
 use Rattle.bits.specs.Bit.{bit}
 use Rattle.bits.specs.Matrix.{pair}
-use Rattle.reduction.specs.Filled.{Filled, Crowded}
+use Rattle.reduction.specs.Filled.{Bounded, Filled, Crowded}
 use Rattle.reduction.proofs.Whole.{ends_agree}
 use Rattle.exported.specs.declared.Rule.{Rule}
-use Rattle.exported.specs.Foreign.{mark_of, code_of, arrow_of, rule_of, EndsWithin, Settled, Made, Past}
+use Rattle.exported.specs.Foreign.{mark_of, code_of, arrow_of, rule_of, Settled, Made}
 use Rattle.exported.proofs.Copies.{read_back}
 
-sliced : {X : Type 0} (n : ℕ) (xs ys : List X) → take n xs ≡ ys → take (n - 0) xs ≡ ys
-sliced n xs ys is = let z : n - 0 ≡ n = omega arith in ap (λ k. take k xs) z ∙ is
+pub blank_arrow : Arrow ℕ
+blank_arrow = record { source = 0; label = 0; target = 0 }
+
+pub blank : Rule
+blank = record { source = 0; target = 0; label = 0 }
 
 -- the first marks and arrows of two buffers are those of the numbers
 module _ (codes : List ℕ) (rules : List Rule) (marks : List Mark) (arrows : List (Arrow ℕ)) (m : take (length codes) marks ≡ map mark_of codes) (x : take (length rules) arrows ≡ map arrow_of rules) where
   abbrev marked : List Mark
-  marked = take (length codes - 0) marks
+  marked = take (length codes) marks
 
   abbrev drawn : List (Arrow ℕ)
-  drawn = take (length rules - 0) arrows
+  drawn = take (length rules) arrows
 
   pub moved : (F : List Mark → List (Arrow ℕ) → Type 0) → F marked drawn → F (map mark_of codes) (map arrow_of rules)
-  moved F f = subst (λ y. F (map mark_of codes) y) (sliced (length rules) arrows (map arrow_of rules) x) (subst (λ y. F y drawn) (sliced (length codes) marks (map mark_of codes) m) f)
+  moved F f = subst (λ y. F (map mark_of codes) y) x (subst (λ y. F y drawn) m f)
 
-  pub states_are : length marked ≡ length codes
-  states_are = ap length (sliced (length codes) marks (map mark_of codes) m) ∙ length-map codes mark_of
-
-  pub arrows_are : length drawn ≡ length rules
-  arrows_are = ap length (sliced (length rules) arrows (map arrow_of rules) x) ∙ length-map rules arrow_of
-
-  pub within_are : AllByRecursion (EndsWithin (length codes)) rules → AllByRecursion (Within (length marked)) drawn
-  within_are within = subst (λ n. AllByRecursion (Within n) drawn) (sym states_are) (subst (AllByRecursion (Within (length codes))) (sym (sliced (length rules) arrows (map arrow_of rules) x)) (All-map (Within (length codes)) arrow_of rules within))
+  pub bounded_are : Bounded (map mark_of codes) (map arrow_of rules) → Bounded marked drawn
+  bounded_are b = subst (λ y. Bounded y drawn) (sym m) (subst (λ y. Bounded (map mark_of codes) y) (sym x) b)
 
   pub settled_are : (rows : List ℕ) (number : ℕ) → Keeps (automaton bit marked drawn) (pair rows) → Greatest (automaton bit marked drawn) (pair rows)
       → ((p q : ℕ) → (length marked ≤ p) ⊎ (length marked ≤ q) → pair rows p q ≡ false) → number ≡ pairs (pair rows) (length marked) → Settled codes rules rows number
-  settled_are rows number keeps greatest empty count = record {
-    keeps = moved (λ y z. Keeps (automaton bit y z) (pair rows)) keeps;
-    greatest = moved (λ y z. Greatest (automaton bit y z) (pair rows)) greatest;
-    empty = subst (λ n. (p q : ℕ) → (n ≤ p) ⊎ (n ≤ q) → pair rows p q ≡ false) states_are empty;
-    count = count ∙ ap (pairs (pair rows)) states_are;
-  }
+  settled_are rows number keeps greatest empty count =
+      let long : length marked ≡ length codes = ap length m ∙ length-map codes mark_of in
+      record {
+        keeps = moved (λ y z. Keeps (automaton bit y z) (pair rows)) keeps;
+        greatest = moved (λ y z. Greatest (automaton bit y z) (pair rows)) greatest;
+        empty = subst (λ n. (p q : ℕ) → (n ≤ p) ⊎ (n ≤ q) → pair rows p q ≡ false) long empty;
+        count = count ∙ ap (pairs (pair rows)) long;
+      }
 
 all_of : {X : Type 0} (G : X → Type 0) → ((x : X) → G x) → (xs : List X) → AllByRecursion G xs
 all_of G g [] = tt
@@ -71,39 +70,32 @@ mark_back Both = refl
 
 -- ---- the target
 
--- what was written from the first n of a buffer
-first_written : {X Y : Type 0} (f : X → Y) (n : ℕ) (xs : List X) (ys : List Y) → n ≤ length xs → take (length (take (n - 0) xs)) ys ≡ map f (take (n - 0) xs) → take n ys ≡ map f (take n xs)
-first_written f n xs ys room is =
-    let z : n - 0 ≡ n = omega arith in
-    let long : length (take (n - 0) xs) ≡ n = ap (λ k. length (take k xs)) z ∙ length-take-le n xs room in
-    ap (λ k. take k ys) (sym long) ∙ is ∙ ap (λ k. map f (take k xs)) z
-
-pub first_past : {X Y : Type 0} (n : ℕ) (xs : List X) (old new : List Y) → n ≤ length xs → Past (length (take (n - 0) xs)) old new → Past n old new
-first_past n xs old new room past =
-    let z : n - 0 ≡ n = omega arith in
-    let long : length (take (n - 0) xs) ≡ n = ap (λ k. length (take k xs)) z ∙ length-take-le n xs room in
-    subst (λ k. Past k old new) long past
-
 module _ (M : Automaton ℕ) (K : ℕ → ℕ → Bool) (states number : ℕ) (marks : List Mark) (arrows : List (Arrow ℕ)) (rows : List ℕ) (f : Filled bit M K states number marks arrows rows) where
   pub number_fits : number ≤ length arrows
   number_fits = omega (arith, f.arrows_fit)
 
+  pub marks_long : length (take states marks) ≡ states
+  marks_long = length-take-le states marks f.states_fit
+
+  pub arrows_long : length (take number arrows) ≡ number
+  arrows_long = length-take-le number arrows number_fits
+
   -- written into the buffers of the caller
-  pub made_are : (codes : List ℕ) (rules : List Rule) (rows' : List ℕ) → take (length (take (states - 0) marks)) codes ≡ map code_of (take (states - 0) marks) → take (length (take (number - 0) arrows)) rules ≡ map rule_of (take (number - 0) arrows) → rows' ≡ rows
+  pub made_are : (codes : List ℕ) (rules : List Rule) (rows' : List ℕ) → take states codes ≡ map code_of (take states marks) → take number rules ≡ map rule_of (take number arrows) → rows' ≡ rows
       → states ≤ length codes → number ≤ length rules → (Greatest M K → Minimal M (automaton bit (take states marks) (take number arrows)) (pair rows) number) → Made M K codes rules rows' states number
-  made_are codes rules rows' wm wr wx room_codes room_rules least =
-      let cs = first_written code_of states marks codes f.states_fit wm in
-      let rs = first_written rule_of number arrows rules number_fits wr in
+  made_are codes rules rows' cs rs wx room_codes room_rules least =
       let mb = sym (read_back code_of mark_of mark_back (take states marks) (take states codes) cs) in
       let ab = sym (read_back rule_of arrow_of (λ x. refl) (take number arrows) (take number rules) rs) in
       let move : (F : List Mark → List (Arrow ℕ) → List ℕ → Type 0) → F (take states marks) (take number arrows) rows → F (map mark_of (take states codes)) (map arrow_of (take number rules)) rows' =
       λ F x. subst (λ y. F (map mark_of (take states codes)) (map arrow_of (take number rules)) y) (sym wx) (subst (λ y. F (map mark_of (take states codes)) y rows) ab (subst (λ y. F y (take number arrows) rows) mb x)) in
       record {
-        book = move (λ y z r. ReducedBook bit M K y z (pair r)) f.book;
+        filled = record {
+          book = rw (take-map mark_of states codes, take-map arrow_of number rules) (move (λ y z r. ReducedBook bit M K y z (pair r)) f.book);
+          rest = subst (λ r. (p q : ℕ) → (states ≤ p) ⊎ (states ≤ q) → pair r p q ≡ false) (sym wx) f.rest;
+          states_fit = omega (arith, length-map codes mark_of);
+          arrows_fit = omega (arith, length-map rules arrow_of, f.arrows_fit);
+        };
         small = subst (AllByRecursion (λ c. c < 4)) (sym cs) (All-map (λ c. c < 4) code_of (take states marks) (all_of (λ m. code_of m < 4) code_small (take states marks)));
-        rest = subst (λ r. (p q : ℕ) → (states ≤ p) ⊎ (states ≤ q) → pair r p q ≡ false) (sym wx) f.rest;
-        states_fit = room_codes;
-        arrows_fit = room_rules;
         least = λ g. move (λ y z r. Minimal M (automaton bit y z) (pair r) number) (least g);
       }
 

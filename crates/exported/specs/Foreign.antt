@@ -7,11 +7,11 @@ use Rattle.automata.specs.declared.Mark.{Mark}
 use Rattle.automata.specs.declared.Mark.TheVariants.{Neither, Initial, Accepting, Both}
 use Rattle.automata.specs.Automata.{Automaton, automaton, mark}
 use Rattle.automata.specs.Below.{pairs}
-use Rattle.automata.specs.Book.{ReducedBook}
 use Rattle.automata.specs.Minimal.{Minimal}
 use Rattle.automata.specs.Simulation.{Greatest, Keeps}
 use Rattle.bits.specs.Bit.{bit}
 use Rattle.bits.specs.Matrix.{pair}
+use Rattle.reduction.specs.Filled.{Bounded, Filled}
 use Rattle.exported.specs.declared.Rule.{Rule}
 
 -- bit 0 of a code says that a state is initial, bit 1 that it is accepting
@@ -34,14 +34,9 @@ rule_of x = record { source = x.source; target = x.target; label = x.label }
 abbrev pub book_of : List ℕ → List Rule → Automaton ℕ
 book_of codes rules = automaton bit (map mark_of codes) (map arrow_of rules)
 
-abbrev pub EndsWithin : ℕ → Rule → Type 0
-EndsWithin n x = (x.source < n) × (x.target < n)
-
--- the numbers make a book: at most 256 states and 8,192 arrows between them, and a whole matrix of pairs
+-- the numbers make a book of at most 256 states and 8,192 arrows between them, and a whole matrix of pairs
 pub record Sound (codes : List ℕ) (rules : List Rule) (rows : List ℕ) : Type 0 where
-  pub states : length codes ≤ 256
-  pub few : length rules ≤ 8192
-  pub within : AllByRecursion (EndsWithin (length codes)) rules
+  pub book : Bounded (map mark_of codes) (map arrow_of rules)
   pub square : length rows ≡ 1024
 
 -- the rows hold exactly the greatest simulation, and so many pairs
@@ -59,12 +54,9 @@ pub record Roomy (codes rows : List ℕ) : Type 0 where
 -- the first codes and rules and the rows are the reduction of a book by the pairs K, so many states and arrows; it is least if these
 -- are the greatest simulation
 pub record Made (M : Automaton ℕ) (K : ℕ → ℕ → Bool) (codes : List ℕ) (rules : List Rule) (rows : List ℕ) (states arrows : ℕ) : Type 0 where
-  pub book : ReducedBook bit M K (map mark_of (take states codes)) (map arrow_of (take arrows rules)) (pair rows)
+  pub filled : Filled bit M K states arrows (map mark_of codes) (map arrow_of rules) rows
   pub small : AllByRecursion (λ c. c < 4) (take states codes)
-  pub rest : (p q : ℕ) → (states ≤ p) ⊎ (states ≤ q) → pair rows p q ≡ false
-  pub states_fit : states ≤ length codes
-  pub arrows_fit : arrows ≤ length rules
-  pub least : Greatest M K → Minimal M (automaton bit (map mark_of (take states codes)) (map arrow_of (take arrows rules))) (pair rows) arrows
+  pub least : Greatest M K → Minimal M (book_of (take states codes) (take arrows rules)) (pair rows) arrows
 
 -- what stands past the first k is as it was
 abbrev pub Past : {X : Type 0} → ℕ → List X → List X → Type 0

@@ -5,18 +5,21 @@
 // settle has one, reduce two, of 192 KiB each.
 #![tactic(auto)]
 
-ghost use Rattle.std.specs.Prelude.{◌≡◌, ◌-◌, ◌^◌, ◌≤◌, true, false, map, length, take, Decides};
+ghost use Rattle.std.specs.Prelude.{◌≡◌, ℕ, ◌-◌, ◌^◌, ◌<◌, ◌≤◌, true, false, map, length, Decides, slice_index_or};
 ghost use Rattle.std.specs.List.{AllByRecursion};
 ghost use Rattle.bits.specs.Matrix.{pair};
-ghost use Rattle.reduction.specs.Filled.{Crowded};
-ghost use Rattle.exported.specs.Foreign.{mark_of, code_of, arrow_of, rule_of, book_of, EndsWithin, Sound, Settled, Roomy, Made, Past};
+ghost use Rattle.automata.specs.Automata.{Within};
+ghost use Rattle.reduction.specs.Filled.{Bounded, Crowded};
+ghost use Rattle.exported.specs.Foreign.{mark_of, code_of, arrow_of, rule_of, book_of, Sound, Settled, Roomy, Made, Past};
 
 use automata::{Arrow, Mark};
+use bits::Rows;
 use engine::settle;
 use labels::StyleMarks;
-use reduction::reduce;
+use reduction::{Counts, reduce};
 
-// An arrow as it crosses from C, which has no generic structs. A label is the set of its style marks.
+// An arrow as it crosses from C, which has no generic structs; codes, rows and a size cross as numbers too. A label is the set of its
+// style marks.
 #[repr(C)]
 #[derive(Clone, Copy)]
 pub struct Rule {
@@ -33,72 +36,65 @@ pub struct Size {
     pub arrows: u64,
 }
 
+impl From<Rule> for Arrow<u64> {
+    ghost from_gives = { λ x r. r ≡ arrow_of x };
+
+    fn from(rule: Rule) -> Arrow<u64> {
+        let Rule {
+            source,
+            target,
+            label,
+        } = rule;
+        Arrow {
+            source,
+            label,
+            target,
+        }
+    }
+}
+
+impl From<Arrow<u64>> for Rule {
+    ghost from_gives = { λ x r. r ≡ rule_of x };
+
+    fn from(arrow: Arrow<u64>) -> Rule {
+        let Arrow {
+            source,
+            label,
+            target,
+        } = arrow;
+        Rule {
+            source,
+            target,
+            label,
+        }
+    }
+}
+
+impl From<Counts> for Size {
+    ghost from_gives = { λ x r. r ≡ record { states = x.states; arrows = x.arrows } };
+
+    fn from(counts: Counts) -> Size {
+        Size {
+            states: counts.states as u64,
+            arrows: counts.arrows as u64,
+        }
+    }
+}
+
 const BLANK: Arrow<u64> = Arrow {
     source: 0,
     label: 0,
     target: 0,
 };
 
-// Writes the marks that the codes say.
-fn read_marks(codes: &[u8], marks: &mut [Mark])
-    requires { length codes.now ≤ length marks.old }
-    ensures { take (length codes.now) marks.new ≡ map mark_of codes.now }
+// Marks cross to C as codes: bit 0 for an initial state, bit 1 for an accepting one. No `From`, since neither type is this crate's.
+fn mark_of(code: u8) -> Mark
+    ensures { result ≡ mark_of code }
 {
-    for i in 0..codes.len() {
-        let code = u64::from(codes[i]);
-        marks[i] = Mark::new(bits::is_set(code, 0), bits::is_set(code, 1));
-    }
+    let code = u64::from(code);
+    Mark::new(bits::is_set(code, 0), bits::is_set(code, 1))
 }
 
-// Writes the arrows that the rules say.
-fn read_arrows(rules: &[Rule], arrows: &mut [Arrow<u64>])
-    requires { length rules.now ≤ length arrows.old }
-    ensures { take (length rules.now) arrows.new ≡ map arrow_of rules.now }
-{
-    for k in 0..rules.len() {
-        let Rule {
-            source,
-            target,
-            label,
-        } = rules[k];
-        arrows[k] = Arrow {
-            source,
-            label,
-            target,
-        };
-    }
-}
-
-// Whether both ends of each rule are below `states`.
-fn is_within_states(rules: &[Rule], states: usize) -> bool
-    ensures { Decides result (AllByRecursion (EndsWithin states) rules.now) }
-{
-    for rule in rules {
-        if rule.source as usize >= states || rule.target as usize >= states {
-            return false;
-        }
-    }
-    true
-}
-
-// Whether the numbers make a book.
-fn is_book(codes: &[u8], rules: &[Rule], rows: &[u64]) -> bool
-    ensures { Decides result (Sound codes.now rules.now rows.now) }
-{
-    if codes.len() > 256 || rules.len() > 8192 || rows.len() != 1024 {
-        return false;
-    }
-    is_within_states(rules, codes.len())
-}
-
-// Whether a target has room for the codes and the rows of any book.
-fn is_roomy(codes: &[u8], rows: &[u64]) -> bool
-    ensures { Decides result (Roomy codes.now rows.now) }
-{
-    codes.len() >= 256 && rows.len() == 1024
-}
-
-// Bit 0 for an initial state, bit 1 for an accepting one.
 fn code_of(mark: Mark) -> u8
     ensures { result ≡ code_of mark }
 {
@@ -110,62 +106,75 @@ fn code_of(mark: Mark) -> u8
     }
 }
 
-// Writes the codes of marks.
-fn write_marks(marks: &[Mark], codes: &mut [u8])
-    requires { length marks.now ≤ length codes.old }
-    ensures written { take (length marks.now) codes.new ≡ map code_of marks.now }
-    ensures past { Past (length marks.now) codes.old codes.new }
+// Writes what is made of each element, from the first place on. By the place: after
+// a `zip` with `iter_mut` no proof knows the elements.
+fn write<X: Copy, Y: Copy, F: Fn(X) -> Y>(from: &[X], into: &mut [Y], make: F)
+    requires room { length from.now ≤ length into.old }
+    requires callable { F.IsAlwaysCallable make }
+    ensures made { (k : ℕ) (d : X.row.Denot) (e : Y.row.Denot) → k < length from.now → F.post make (slice_index_or from.now k d) (slice_index_or into.new k e) }
+    ensures past { Past (length from.now) into.old into.new }
 {
-    for i in 0..marks.len() {
-        codes[i] = code_of(marks[i]);
+    for (i, x) in from.iter().enumerate() {
+        into[i] = make(*x);
     }
 }
 
-// Writes the rules of arrows.
-fn write_rules(arrows: &[Arrow<u64>], rules: &mut [Rule])
-    requires { length arrows.now ≤ length rules.old }
-    ensures written { take (length arrows.now) rules.new ≡ map rule_of arrows.now }
-    ensures past { Past (length arrows.now) rules.old rules.new }
+// Whether both ends of each rule are below `states`.
+fn is_within(rules: &[Rule], states: usize) -> bool
+    ensures { Decides result (AllByRecursion (λ x. Within states (arrow_of x)) rules.now) }
 {
-    for k in 0..arrows.len() {
-        let Arrow {
-            source,
-            label,
-            target,
-        } = arrows[k];
-        rules[k] = Rule {
-            source,
-            target,
-            label,
-        };
-    }
+    rules.iter().all(|rule| {
+        usize::from(rule.source) < states && usize::from(rule.target) < states
+    })
+}
+
+// Whether the numbers make a book.
+fn is_book(codes: &[u8], rules: &[Rule]) -> bool
+    ensures bounded { Decides result (Bounded (map mark_of codes.now) (map arrow_of rules.now)) }
+    ensures fits { result ≡ true → (length codes.now ≤ 256) × (length rules.now ≤ 8192) }
+{
+    codes.len() <= 256 && rules.len() <= 8192 && is_within(rules, codes.len())
+}
+
+// Whether a target has room for the codes and the rows of any book.
+fn is_roomy(codes: &[u8], rows: &[u64]) -> bool
+    ensures { Decides result (Roomy codes.now rows.now) }
+{
+    codes.len() >= 256 && rows.len() == 1024
 }
 
 // Settles a book: `rows` then has exactly the kept pairs, and the answer is their number. Where the numbers make no book it
-// answers the largest number and alters nothing.
+// answers the largest number, which is no count of pairs, and alters nothing: C has no `Option`.
 #[unsafe(no_mangle)]
 pub extern "C" fn worsklif_settle(codes: &[u8], rules: &[Rule], rows: &mut [u64]) -> u64
     ensures settled { Sound codes.now rules.now rows.old → Settled codes.now rules.now rows.new result }
     ensures refused { (Sound codes.now rules.now rows.old → ⊥) → (result ≡ 2 ^ 64 - 1) × (rows.new ≡ rows.old) }
 {
-    if !is_book(codes, rules, rows) {
+    let Ok(words) = <[u64; 1024]>::try_from(&*rows) else {
+        return u64::MAX;
+    };
+    if !is_book(codes, rules) {
         return u64::MAX;
     }
+    // Here and in reduce, not in a function: it would hand out the tables by value, and so have them twice on the stack.
     let mut arrows = [BLANK; 8192];
     let mut marks = [Mark::Neither; 256];
-    read_marks(codes, &mut marks);
-    read_arrows(rules, &mut arrows);
-    settle(
+    write(codes, &mut marks, mark_of);
+    write(rules, &mut arrows, Arrow::from);
+    let mut kept = Rows { words };
+    let number = settle(
         &StyleMarks,
-        &arrows[0..rules.len()],
-        &marks[0..codes.len()],
-        rows,
-    ) as u64
+        &arrows[..rules.len()],
+        &marks[..codes.len()],
+        &mut kept,
+    );
+    rows.copy_from_slice(&kept.words);
+    number as u64
 }
 
 // Reduces a book by the pairs in `rows`: the first codes and rules of the target, its rows and its size are then those of the
 // reduced book, and what stands past them is as it was. Where the numbers make no book, or the target has no room for 256 codes,
-// for 1,024 words or for the arrows, it answers false and alters nothing.
+// for 1,024 words or for the arrows, it answers false and alters nothing. The size goes out by a reference, since C has no `Option`.
 #[unsafe(no_mangle)]
 pub extern "C" fn worsklif_reduce(
     codes: &[u8],
@@ -182,38 +191,40 @@ pub extern "C" fn worsklif_reduce(
     ensures refused { result ≡ false → Sound codes.now rules.now rows.now → Roomy into_codes.old into_rows.old → Crowded (book_of codes.now rules.now) (pair rows.now) (length into_rules.old) }
     ensures same { result ≡ false → (into_codes.new ≡ into_codes.old) × (into_rules.new ≡ into_rules.old) × (into_rows.new ≡ into_rows.old) × (size.new ≡ size.old) }
 {
-    if !is_book(codes, rules, rows) || !is_roomy(into_codes, into_rows) {
+    let Ok(words) = <[u64; 1024]>::try_from(rows) else {
+        return false;
+    };
+    if !is_book(codes, rules) || !is_roomy(into_codes, into_rows) {
         return false;
     }
     let mut arrows = [BLANK; 8192];
     let mut marks = [Mark::Neither; 256];
-    read_marks(codes, &mut marks);
-    read_arrows(rules, &mut arrows);
+    write(codes, &mut marks, mark_of);
+    write(rules, &mut arrows, Arrow::from);
     let mut new_arrows = [BLANK; 8192];
     let mut new_marks = [Mark::Neither; 256];
-    let mut new_rows = [0; 1024];
+    let mut new_rows = Rows::empty();
     let Some(counts) = reduce(
         &StyleMarks,
-        &arrows[0..rules.len()],
-        &marks[0..codes.len()],
-        rows,
+        &arrows[..rules.len()],
+        &marks[..codes.len()],
+        &Rows { words },
         &mut new_arrows,
         &mut new_marks,
         &mut new_rows,
     ) else {
         return false;
     };
-    let states = counts.states;
-    let used = counts.arrows;
+    let Counts {
+        states,
+        arrows: used,
+    } = counts;
     if into_rules.len() < used {
         return false;
     }
-    write_marks(&new_marks[0..states], into_codes);
-    write_rules(&new_arrows[0..used], into_rules);
-    into_rows.copy_from_slice(&new_rows);
-    *size = Size {
-        states: states as u64,
-        arrows: used as u64,
-    };
+    write(&new_marks[..states], into_codes, code_of);
+    write(&new_arrows[..used], into_rules, Rule::from);
+    into_rows.copy_from_slice(&new_rows.words);
+    *size = Size::from(counts);
     true
 }

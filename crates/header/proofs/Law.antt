@@ -15,10 +15,12 @@ use Rattle.lines.specs.Fields.{Free, fields}
 use Rattle.lines.specs.Numbers.{number_in}
 use Rattle.lines.specs.declared.Fault.{Fault}
 use Rattle.lines.specs.declared.Fault.TheVariants.{Word, Count}
-use Rattle.lines.proofs.Fields.{fields_joined, fields_some, line_joined}
+use Rattle.lines.specs.declared.Place.{Place}
+use Rattle.lines.specs.Places.{further}
+use Rattle.lines.proofs.Parts.{fields_joined, line_joined}
 use Rattle.lines.proofs.Numbers.{free_decimal, number_in_cases, number_in_decimal}
-use Rattle.header.specs.CutLine.{cut_fields_text, cut_line_text, in_first, fault_of_shape, cut_fields, cut_line}
-use Rattle.header.proofs.Reading.{cut_fields_more, cut_fields_number, cut_fields_order, cut_line_shape}
+use Rattle.header.specs.CutLine.{cut_fields_text, cut_line_text, cut_fields, cut_line_of, cut_line}
+use Rattle.header.proofs.Reading.{cut_fields_more, cut_fields_number, cut_fields_order}
 
 -- no answer is both
 pub ok_not_err : {X Y : Type 0} (r : Result X Y) (x : X) (y : Y) → r ≡ Ok x → r ≡ Err y → ⊥
@@ -30,14 +32,14 @@ cut_fields_text_joined [] = refl
 cut_fields_text_joined (cut ∷ cuts) = ap (λ t. 44 ∷ (decimal cut ++ t)) (cut_fields_text_joined cuts)
 
 -- fields that are accepted are the texts of the cuts that they add
-decimals_from_fields : (cuts : List ℕ) (at : ℕ) (more : List (List ℕ)) (all : List ℕ) → cut_fields cuts at more ≡ Ok all → map decimal all ≡ map decimal cuts ++ more
+decimals_from_fields : (cuts : List ℕ) (at : Place) (more : List (List ℕ)) (all : List ℕ) → cut_fields cuts at more ≡ Ok all → map decimal all ≡ map decimal cuts ++ more
 unfolding cut_fields
 decimals_from_fields cuts at [] all e = let same : cuts ≡ all = cc in ap (map decimal) (sym same) ∙ sym (append-nil (map decimal cuts))
 decimals_from_fields cuts at (field ∷ more) all e =
-    by_number (number_in 1114111 field) refl (λ cut. decimals_from_fields (cuts ++ (cut ∷ [])) (at + length field + 1) more all)
+    by_number (number_in 1114111 field) refl (λ cut. decimals_from_fields (cuts ++ (cut ∷ [])) (further at (length field + 1)) more all)
   where
     by_order : (cut : ℕ) (t : Bool) → number_in 1114111 field ≡ Some cut → goes_on cuts cut ≡ t
-        → (cut_fields (cuts ++ (cut ∷ [])) (at + length field + 1) more ≡ Ok all → map decimal all ≡ map decimal (cuts ++ (cut ∷ [])) ++ more) → map decimal all ≡ map decimal cuts ++ (field ∷ more)
+        → (cut_fields (cuts ++ (cut ∷ [])) (further at (length field + 1)) more ≡ Ok all → map decimal all ≡ map decimal (cuts ++ (cut ∷ [])) ++ more) → map decimal all ≡ map decimal cuts ++ (field ∷ more)
     by_order cut false is on rest = absurd (ok_not_err _ _ _ e (cut_fields_order cuts at field more cut is on))
     by_order cut true is on rest =
         rest (sym (cut_fields_more cuts at field more cut is on) ∙ e)
@@ -46,12 +48,12 @@ decimals_from_fields cuts at (field ∷ more) all e =
         ∙ ap (λ f. map decimal cuts ++ (f ∷ more)) (sym (number_in_cases 1114111 field (Some cut) (omega arith) (sym is)).1)
 
     by_number : (o : Option ℕ) → number_in 1114111 field ≡ o
-        → ((cut : ℕ) → cut_fields (cuts ++ (cut ∷ [])) (at + length field + 1) more ≡ Ok all → map decimal all ≡ map decimal (cuts ++ (cut ∷ [])) ++ more) → map decimal all ≡ map decimal cuts ++ (field ∷ more)
+        → ((cut : ℕ) → cut_fields (cuts ++ (cut ∷ [])) (further at (length field + 1)) more ≡ Ok all → map decimal all ≡ map decimal (cuts ++ (cut ∷ [])) ++ more) → map decimal all ≡ map decimal cuts ++ (field ∷ more)
     by_number None is rest = absurd (ok_not_err _ _ _ e (cut_fields_number cuts at field more is))
     by_number (Some cut) is rest = by_order cut (goes_on cuts cut) is refl (rest cut)
 
 -- the texts of cuts that rise are accepted
-cut_fields_decimals : (cuts more : List ℕ) (at : ℕ) → Rising (cuts ++ more) → cut_fields cuts at (map decimal more) ≡ Ok (cuts ++ more)
+cut_fields_decimals : (cuts more : List ℕ) (at : Place) → Rising (cuts ++ more) → cut_fields cuts at (map decimal more) ≡ Ok (cuts ++ more)
 unfolding cut_fields
 cut_fields_decimals cuts [] at r = ap Ok (sym (append-nil cuts))
 cut_fields_decimals cuts (cut ∷ more) at r =
@@ -62,46 +64,44 @@ cut_fields_decimals cuts (cut ∷ more) at r =
     let low : cut ≤ 1114111 = omega (arith, r.high (length cuts) long) in
     let on : goes_on cuts cut ≡ true = ap₂ goes_on (sym (take_at cuts (cut ∷ more) (length cuts) refl)) (sym here) ∙ rising_goes_on all r (length cuts) long in
     cut_fields_more cuts at (decimal cut) (map decimal more) cut (number_in_decimal 1114111 cut low (omega arith)) on
-    ∙ cut_fields_decimals (cuts ++ (cut ∷ [])) more (at + length (decimal cut) + 1) (subst Rising (sym whole) r)
+    ∙ cut_fields_decimals (cuts ++ (cut ∷ [])) more (further at (length (decimal cut) + 1)) (subst Rising (sym whole) r)
     ∙ ap Ok whole
 
-word_from_shape : (word : List ℕ) (count : ℕ) → fault_of_shape word count ≡ None → word ≡ codes "cuts"
-word_from_shape word count e = by (bytes_eq word (codes "cuts")) refl e
-  where
-    by : (t : Bool) → bytes_eq word (codes "cuts") ≡ t → cond t (cond (ltb 64 count) (Some (Count (in_first 0))) None) (Some (Word (in_first 0))) ≡ None → word ≡ codes "cuts"
-    by true t f = (bytes_eq-Decides word (codes "cuts")).0 t
-    by false t f = let z : ◌≡◌ {A = ℕ} 0 1 = cc in absurd (omega arith)
-
 -- a line that is accepted
-text_from_cut_line : (line cuts : List ℕ) → cut_line line ≡ Ok cuts → line ≡ cut_line_text cuts
-text_from_cut_line line cuts e = by_fields (fields line) refl
+text_from_cut_line : (at : Place) (line cuts : List ℕ) → cut_line at line ≡ Ok cuts → line ≡ cut_line_text cuts
+unfolding cut_line
+text_from_cut_line at line cuts e = by_fields (fields line) refl e
   where
-    by : (word : List ℕ) (more : List (List ℕ)) → fields line ≡ word ∷ more → (o : Option Fault) → o ≡ fault_of_shape word (length (fields line)) → line ≡ cut_line_text cuts
-    by word more is (Some f) o = absurd (ok_not_err _ _ _ e (cut_line_shape line word more is _ (Some f) refl o))
-    by word more is None o =
-        let named : word ≡ codes "cuts" = word_from_shape word (length (fields line)) (sym o) in
-        let said : map decimal cuts ≡ more = decimals_from_fields [] 5 more cuts (sym (cut_line_shape line word more is _ None refl o) ∙ e) in
+    by : (word : List ℕ) (more : List (List ℕ)) → fields line ≡ word ∷ more → (t u : Bool) → bytes_eq word (codes "cuts") ≡ t
+        → cond t (cond u (Err (Count at)) (cut_fields [] (further at 5) more)) (Err (Word at)) ≡ Ok cuts → line ≡ cut_line_text cuts
+    by word more is false u t f = absurd (ok_not_err _ _ _ f refl)
+    by word more is true true t f = absurd (ok_not_err _ _ _ f refl)
+    by word more is true false t f =
+        let named : word ≡ codes "cuts" = (bytes_eq-Decides word (codes "cuts")).0 t in
+        let said : map decimal cuts ≡ more = decimals_from_fields [] (further at 5) more cuts f in
         line_joined line word more is ∙ ap₂ ◌++◌ named (ap (flat_map (λ f. 44 ∷ f)) (sym said) ∙ sym (cut_fields_text_joined cuts))
 
-    by_fields : (fs : List (List ℕ)) → fields line ≡ fs → line ≡ cut_line_text cuts
-    by_fields [] is = absurd (omega (arith, ap length is, fields_some line))
-    by_fields (word ∷ more) is = by word more is (fault_of_shape word (length (fields line))) refl
+    by_fields : (fs : List (List ℕ)) → fields line ≡ fs → cut_line_of at fs ≡ Ok cuts → line ≡ cut_line_text cuts
+    by_fields [] is f = absurd (ok_not_err _ _ _ f refl)
+    by_fields (word ∷ more) is f = by word more is (bytes_eq word (codes "cuts")) (ltb 64 (length (word ∷ more))) refl f
 
 -- the line of a rising list
 module _ (cuts : List ℕ) (up : Rising cuts) where
   decimals_free : (b : ℕ) → b < 48 → AllByRecursion (λ cut. Free b (decimal cut)) cuts
   decimals_free b low = All-from_get_or (λ cut. Free b (decimal cut)) cuts 0 (λ i h. free_decimal b (get_or cuts i 0) low (omega (arith, up.high i h)))
 
-  pub cut_line_rising : (line : List ℕ) → line ≡ cut_line_text cuts → cut_line line ≡ Ok cuts
-  cut_line_rising line is =
+  pub cut_line_rising : (at : Place) (line : List ℕ) → line ≡ cut_line_text cuts → cut_line at line ≡ Ok cuts
+  unfolding cut_line
+  cut_line_rising at line is =
       let more = map decimal cuts in
       let word : Free 44 (codes "cuts") = search rules in
       let parts : fields line ≡ codes "cuts" ∷ more =
       ap fields (is ∙ ap (λ t. codes "cuts" ++ t) (cut_fields_text_joined cuts))
       ∙ fields_joined (codes "cuts") more word (All-map (Free 44) decimal cuts (decimals_free 44 (omega arith))) in
-      let few : length (fields line) ≤ 64 = omega (arith, ap length parts, length-map cuts decimal, up.few) in
-      cut_line_shape line (codes "cuts") more parts _ None refl (sym (ap (λ t. cond t (Some (Count (in_first 0))) None) (le-ltb 64 (length (fields line)) few)))
-      ∙ cut_fields_decimals [] cuts 5 up
+      let few : length (codes "cuts" ∷ more) ≤ 64 = omega (arith, length-map cuts decimal, up.few) in
+      ap (cut_line_of at) parts
+      ∙ ap (λ b. cond b (Err (Count at)) (cut_fields [] (further at 5) more)) (le-ltb 64 (length (codes "cuts" ∷ more)) few)
+      ∙ cut_fields_decimals [] cuts (further at 5) up
 
   pub cut_line_text_free : Free 10 (cut_line_text cuts)
   unfolding cut_fields_text
@@ -111,7 +111,7 @@ module _ (cuts : List ℕ) (up : Rising cuts) where
       by [] h = tt
       by (cut ∷ cs) h = ((λ e. omega arith), All-append (λ x. x ≡ 10 → ⊥) (decimal cut) (cut_fields_text cs) h.0 (by cs h.1))
 
-pub read_law : (line : List ℕ) (r : Result Cuts Fault) → MatchResult r (λ c. cut_line line ≡ Ok (cuts_of c)) (λ f. cut_line line ≡ Err f)
+pub read_law : (at : Place) (line : List ℕ) (r : Result Cuts Fault) → MatchResult r (λ c. cut_line at line ≡ Ok (cuts_of c)) (λ f. cut_line at line ≡ Err f)
     → MatchResult r (λ c. line ≡ cut_line_text (cuts_of c)) (λ f. (cuts : List ℕ) → Rising cuts → line ≡ cut_line_text cuts → ⊥)
-read_law line r says =
-    MatchResult-weaker r says (λ c ok. text_from_cut_line line (cuts_of c) ok) (λ f err cuts up is. ok_not_err _ _ _ (cut_line_rising cuts up line is) err)
+read_law at line r says =
+    MatchResult-weaker r says (λ c ok. text_from_cut_line at line (cuts_of c) ok) (λ f err cuts up is. ok_not_err _ _ _ (cut_line_rising cuts up at line is) err)

@@ -1,1 +1,2 @@
 pub mod CutLine
+pub mod Behind

@@ -1,40 +1,36 @@
 -- One call of a history, from what the book's own calls promise. Assumes nothing.
-use Rattle.std.proofs.Common.{◌≡◌, ℕ, ◌<◌, Bool, true, false, cond, ◌&&◌, T, eqb, List, length, Some, None, Ok, Err, Decides, Option, Result, sym, refl, ap, ◌∙◌, subst, arith}
-use Rattle.std.proofs.lemmas.Bool.{and_from, ltb-true}
+use Rattle.std.proofs.Common.{◌≡◌, ℕ, ◌<◌, Bool, true, false, cond, T, eqb, List, length, Ok, Err, Decides, Result, sym, refl, ap, ◌∙◌, subst, arith}
+use Rattle.std.proofs.lemmas.Bool.{and_from}
+use Rattle.std.specs.Result.{result_and}
 use Rattle.bits.specs.Matrix.{pair}
 use Rattle.automata.specs.Automata.{Automaton}
 use Rattle.automata.specs.Automata as automata
 use Rattle.automata.specs.Simulation.{Keeps}
-use Rattle.automata.specs.Simulation as simulation
 use Rattle.automata.proofs.Tests.{forth, back}
 use Rattle.automata.proofs.Simulations.{simulations}
 use Rattle.reduction.specs.declared.Counts as reduction
-use Rattle.reduction.proofs.Naming.{to_T, from_T}
-use Rattle.rulebook.specs.declared.book.Ticket.{Ticket}
+use Rattle.reduction.proofs.Naming.{from_T}
 use Rattle.rulebook.specs.declared.parts.Condition.{Condition}
 use Rattle.rulebook.specs.declared.parts.Condition.TheVariants.{Settled, Open}
+use Rattle.rulebook.specs.declared.parts.Refusal.{Refusal}
+use Rattle.rulebook.specs.declared.parts.Refusal.TheVariants.{ForeignTicket}
 use Rattle.rulebook.specs.declared.parts.Act.TheVariants.{Reads}
 use Rattle.rulebook.specs.declared.parts.Act.TheVariants as act
-use Rattle.rulebook.specs.declared.parts.Refusal.{Refusal}
-use Rattle.rulebook.specs.declared.parts.Refusal.TheVariants.{NoSuchState, ForeignTicket}
 use Rattle.rulebook.specs.Refusals.{judged, is_settled}
 use Rattle.rulebook.specs.declared.book.Book.{Book}
 use Rattle.rulebook.specs.View.{view, kept}
 use Rattle.rulebook.proofs.Views.{states_are}
-use Rattle.rulebook.specs.Model.{Abstract, machine, after, by, answers, with_condition, state_exists, opening, settling, asking, copying}
-use Rattle.rulebook.specs.Reducing.{Reduces}
+use Rattle.rulebook.specs.Model.{machine, by, answers, with_condition, settling}
+use Rattle.rulebook.specs.Reducing.{ReduceGives}
 use Rattle.rulebook.proofs.Reduced.{into_minimal}
 use Rattle.histories.specs.declared.calls.Call.{Call}
 use Rattle.histories.specs.declared.calls.Call.TheVariants as call
-use Rattle.histories.specs.declared.calls.Answer.{Answer}
 use Rattle.histories.specs.declared.calls.Answer.TheVariants as answer
 use Rattle.histories.specs.Present.{left_by, part}
-use Rattle.histories.specs.Moments.{Moment, said, Unless, Whole, Counted, Copies, Settles, FilledBy, Still, RowsCopied, Beside, Says, KeptBy, KeptWithin, ReducedRight, Right, Step}
-use Rattle.histories.specs.Held.{Held}
-use Rattle.rulebook.proofs.Edits.{Edited, open_settled, opened}
+use Rattle.histories.specs.Moments.{Moment, Said, said, Unless, Whole, Counted, Settles, FilledBy, Still, Beside, Says, KeptBy, KeptWithin, ReducedRight, Right, Step}
 
 -- the book is still settled where a reading call is let through
-settled_first : {R : Type 0} (b : Condition) (r : Result R Refusal) (x : R) → after (judged b Reads) r ≡ Ok x → (b ≡ Settled) × (r ≡ Ok x)
+settled_first : {R : Type 0} (b : Condition) (r : Result R Refusal) (x : R) → result_and (judged b Reads) r ≡ Ok x → (b ≡ Settled) × (r ≡ Ok x)
 settled_first Settled r x e = (refl, e)
 settled_first Open r x e = let z : ◌≡◌ {A = ℕ} 0 1 = cc in absurd (omega arith)
 
@@ -44,7 +40,7 @@ kept_agree M K L same k p q hp hq = ((λ t. (k p q hp hq).0 (forth (same p q hp)
 -- a settled book keeps no pair but of its states
 pub kept_within : {P : Type 0} (b : Book P) → (view b).condition ≡ Settled → (p q : ℕ) → T (kept b p q) → (p < length (view b).marks) × (q < length (view b).marks)
 kept_within b s p q t =
-    let both = b.inner.bounded p q (and_from (is_settled b.inner.condition) (pair b.inner.rows p q) (ap is_settled s) (from_T _ t)) in
+    let both = b.inner.bounded p q (and_from (is_settled b.inner.condition) (pair b.inner.rows.words p q) (ap is_settled s) (from_T _ t)) in
     let states = states_are b in
     (omega arith, omega arith)
 
@@ -53,23 +49,11 @@ module _ {P V : Type 0} (text : List V) (holds : P → V → Bool) (sat : P → 
   whole_same e k w s =
       subst (λ x. Keeps (machine holds x) n.kept) (sym e) (subst (Keeps (machine holds m.book)) (sym k) (w (sym (ap (λ x. x.condition) e) ∙ s)))
 
-  whole_edited : (b : Abstract P) → n.book ≡ b → Edited m.book b → n.kept ≡ m.kept → Whole holds m → Whole holds n
-  whole_edited b e d k w s =
-      let settled : m.book.condition ≡ Settled = sym d.condition ∙ sym (ap (λ x. x.condition) e) ∙ s in
-      whole_same (e ∙ d.still settled) k w s
-
-  -- an edit
-  pub edit_step : (c : Call P) (a : Answer) → n.book ≡ left_by sat m.book c → Edited m.book (left_by sat m.book c) → n.kept ≡ m.kept → Beside holds m c a n → Says text holds sat m c a n → KeptBy m c n → Right text holds sat m c a n → Step (Whole holds m) text holds sat m c a n
-  edit_step c a e d k s says keeps r = record { book = e; beside = s; says = says; kept = keeps; within = within; right = λ w. r; whole = whole_edited (left_by sat m.book c) e d k }
-
   -- a call that leaves the book
-  pub still_step : (c : Call P) (a : Answer) → left_by sat m.book c ≡ m.book → n.book ≡ m.book → n.kept ≡ m.kept → Beside holds m c a n → Says text holds sat m c a n → KeptBy m c n → (Whole holds m → Right text holds sat m c a n) → Step (Whole holds m) text holds sat m c a n
+  pub still_step : (c : Call P) (a : Said) → left_by sat m.book c ≡ m.book → n.book ≡ m.book → n.kept ≡ m.kept → Beside holds m c a n → Says text holds sat m c a n → KeptBy m c n → (Whole holds m → Right text holds sat m c a n) → Step (Whole holds m) text holds sat m c a n
   still_step c a l e k s says keeps r = record { book = e ∙ sym l; beside = s; says = says; kept = keeps; within = within; right = r; whole = whole_same e k }
 
-  pub open_step : (a : Answer) → a ≡ said answer.Ticket (opening m.book).answer → n.book ≡ (opening m.book).next → n.kept ≡ m.kept → Still m n → Step (Whole holds m) text holds sat m call.Open a n
-  open_step a says e k s = record { book = e; beside = s; says = says; kept = k; within = within; right = λ w. says; whole = λ w o. open_settled (sym (opened m.book) ∙ sym (ap (λ x. x.condition) e) ∙ o) }
-
-  pub settle_step : (t : ℕ) (a : Answer) → Settles (settling m.book t).answer (machine holds m.book) m.kept a n.kept → n.book ≡ (settling m.book t).next → Still m n → Step (Whole holds m) text holds sat m (call.Settle t) a n
+  pub settle_step : (t : ℕ) (a : Said) → Settles (settling m.book t).answer (machine holds m.book) m.kept a n.kept → n.book ≡ (settling m.book t).next → Still m n → Step (Whole holds m) text holds sat m (call.Settle t) a n
   settle_step t a says e s = record {
     book = e;
     beside = s;
@@ -80,7 +64,7 @@ module _ {P V : Type 0} (text : List V) (holds : P → V → Bool) (sat : P → 
     whole = whole (eqb t m.book.number) m.book.condition refl says e;
   }
     where
-      right : (r : Result (Unit {0}) Refusal) → Settles r (machine holds m.book) m.kept a n.kept → Unless r a ((k : ℕ) × (a ≡ answer.Pairs k) × Counted (machine holds m.book) k)
+      right : (r : Result (Unit {0}) Refusal) → Settles r (machine holds m.book) m.kept a n.kept → Unless r a ((k : ℕ) × (a ≡ Ok (answer.Pairs k)) × Counted (machine holds m.book) k)
       right (Ok x) f = (f.0, f.1, (n.kept, f.2, f.3))
       right (Err x) f = f.0
 
@@ -92,42 +76,13 @@ module _ {P V : Type 0} (text : List V) (holds : P → V → Bool) (sat : P → 
       whole true Open o f e w s = subst (λ x. Keeps (machine holds x) n.kept) (sym e) f.2
       whole false k o f e w s = whole_same e f.1 w s
 
-  asked : (p q : ℕ) (k : Bool) → asking m.book m.kept p q ≡ Ok k → (m.book.condition ≡ Settled) × (p < length m.book.marks) × (q < length m.book.marks) × (k ≡ m.kept p q)
-  asked p q k e =
-      let f = settled_first m.book.condition _ k e in
-      let r = go (state_exists m.book p) (state_exists m.book q) f.1 in
-      (f.0, ltb-true p (length m.book.marks) r.0, ltb-true q (length m.book.marks) r.1, r.2)
-    where
-      go : (x y : Bool) → ◌≡◌ {A = Result Bool Refusal} (cond (x && y) (Ok (m.kept p q)) (Err NoSuchState)) (Ok k) → (x ≡ true) × (y ≡ true) × (k ≡ m.kept p q)
-      go true true e = (refl, refl, cc)
-      go true false e = let z : ◌≡◌ {A = ℕ} 0 1 = cc in absurd (omega arith)
-      go false y e = let z : ◌≡◌ {A = ℕ} 0 1 = cc in absurd (omega arith)
+  pub word_step : (i j : ℕ) (k : Bool) → Decides k (automata.Accepts (machine holds m.book) (part i j text)) → n.book ≡ m.book → n.kept ≡ m.kept → Still m n → Step (Whole holds m) text holds sat m (call.TestWord i j) (Ok (answer.Accepts k)) n
+  word_step i j k d e same s = still_step (call.TestWord i j) (Ok (answer.Accepts k)) refl e same s (k, refl, d) same (λ w. (k, refl, d))
 
-  pub ask_step : (p q : ℕ) (a : Answer) → a ≡ said answer.Kept (asking m.book m.kept p q) → n.book ≡ m.book → n.kept ≡ m.kept → Still m n → Step (Whole holds m) text holds sat m (call.Ask p q) a n
-  ask_step p q a says e k s = still_step (call.Ask p q) a refl e k s says k (λ w. go (asking m.book m.kept p q) refl says w)
-    where
-      go : (r : Result Bool Refusal) → asking m.book m.kept p q ≡ r → a ≡ said answer.Kept r → Whole holds m → Unless r a ((k : Bool) × (a ≡ answer.Kept k) × Decides k (simulation.Kept (machine holds m.book) p q))
-      go (Err x) e says w = says
-      go (Ok k) e says w =
-          let f = asked p q k e in
-          let d = w f.0 p q f.1 f.2 in
-          (k, says, ((λ t. d.0 (to_T (sym f.3 ∙ t))), λ x. f.3 ∙ from_T _ (d.1 x)))
-
-  pub copy_step : (i j : ℕ) (a : Answer) → a ≡ said (λ _. answer.Done) (copying m.book (length (part i j m.words))) → n.book ≡ m.book → n.kept ≡ m.kept → RowsCopied i j m n → Step (Whole holds m) text holds sat m (call.CopyRows i j) a n
-  copy_step i j a says e k s = still_step (call.CopyRows i j) a refl e k s says k (λ w. go (copying m.book (length (part i j m.words))) refl says s.words w)
-    where
-      go : (r : Result (Unit {0}) Refusal) → copying m.book (length (part i j m.words)) ≡ r → a ≡ said (λ _. answer.Done) r → Copies r i j (length m.book.marks) m.kept m.words n.words → Whole holds m
-          → Unless r a ((a ≡ answer.Done) × Keeps (machine holds m.book) (pair (part i j n.words)))
-      go (Err x) e says f w = says
-      go (Ok x) e says f w = (says, kept_agree (machine holds m.book) m.kept (pair (part i j n.words)) (λ p q h. f.here.pairs p q h) (w (settled_first m.book.condition _ x e).0))
-
-  pub word_step : (i j : ℕ) (k : Bool) → Decides k (automata.Accepts (machine holds m.book) (part i j text)) → n.book ≡ m.book → n.kept ≡ m.kept → Still m n → Step (Whole holds m) text holds sat m (call.TestWord i j) (answer.Accepts k) n
-  word_step i j k d e same s = still_step (call.TestWord i j) (answer.Accepts k) refl e same s (k, refl, d) same (λ w. (k, refl, d))
-
-  pub reduce_step : (a : Answer) → FilledBy holds m.book m.kept m.target m.order a n.target n.order → n.book ≡ m.book → n.kept ≡ m.kept → n.words ≡ m.words → Step (Whole holds m) text holds sat m call.Reduce a n
+  pub reduce_step : (a : Said) → FilledBy holds m.book m.kept m.target m.order a n.target n.order → n.book ≡ m.book → n.kept ≡ m.kept → n.words ≡ m.words → Step (Whole holds m) text holds sat m call.Reduce a n
   reduce_step a f e k words = still_step call.Reduce a refl e k (record { target = f; words = words }) tt k (λ w c s. go f.result f.reduces (sym f.says ∙ s) w)
     where
-      go : {c : reduction.Counts} (r : Result reduction.Counts Refusal) → Reduces holds m.book m.kept m.target m.order r n.target n.order → said answer.Counts r ≡ answer.Counts c → Whole holds m
+      go : {c : reduction.Counts} (r : Result reduction.Counts Refusal) → ReduceGives holds m.book m.kept m.target m.order r n.target n.order → said answer.Counts r ≡ Ok (answer.Counts c) → Whole holds m
           → ReducedRight holds m.book n.target n.order c
       go {c} (Ok d) r s w =
           let same : d ≡ c = cc in
@@ -137,10 +92,5 @@ module _ {P V : Type 0} (text : List V) (holds : P → V → Bool) (sat : P → 
       go {c} (Err x) r s w = let z : ◌≡◌ {A = ℕ} 0 1 = cc in absurd (omega arith)
 
 -- the call goes by another name
-pub step_of : {P V : Type 0} {W : Type 0} {text : List V} {holds : P → V → Bool} {sat : P → Bool} {m n : Moment P} {a : Answer} {c d : Call P} → c ≡ d → Step W text holds sat m d a n → Step W text holds sat m c a n
+pub step_of : {P V : Type 0} {W : Type 0} {text : List V} {holds : P → V → Bool} {sat : P → Bool} {m n : Moment P} {a : Said} {c d : Call P} → c ≡ d → Step W text holds sat m d a n → Step W text holds sat m c a n
 step_of {W} {text} {holds} {sat} {m} {n} {a} e s = subst (λ x. Step W text holds sat m x a n) (sym e) s
-
--- a ticket that is held stays one after an edit
-pub held_edited : {P : Type 0} (b b' b'' : Abstract P) (h : Option Ticket) → b'' ≡ b' → Edited b b' → Held b h → Held b'' h
-held_edited b b' b'' None s e x = tt
-held_edited b b' b'' (Some t) s e x = (ap (λ y. y.condition) s ∙ e.condition ∙ x.0, x.1 ∙ sym (ap (λ y. y.number) s ∙ e.number))

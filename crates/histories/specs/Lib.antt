@@ -1,4 +1,5 @@
 pub mod Present
 pub mod Moments
 pub mod Held
+pub mod Under
 pub mod Reductions

@@ -2,11 +2,10 @@
 
 use automata::Mark;
 use reduction::Counts;
-use rulebook::Refusal;
 
 // A call on a book. A ticket goes by the number that it bears. What cannot lie in a list of calls is lent beside it: a
 // word is a part of a lent text, a buffer for rows a part of lent words, and reduce fills a lent target.
-#[derive(Clone, Copy)]
+#[derive(Clone, Copy, PartialEq, Eq, Debug)]
 pub enum Call<P> {
     Open,
     AddState {
@@ -46,9 +45,9 @@ pub enum Call<P> {
     Reduce,
 }
 
-// What a call answers: the number that a ticket bears, a state, a mark, an arrow's place, that it was accepted, how many
-// pairs are kept, whether a pair is kept, whether a word is accepted, the counts of a reduced book, or why it is declined.
-#[derive(Clone, Copy)]
+// What an accepted call answers: the number that a ticket bears, a state, a mark, an arrow's place, that it was accepted, how
+// many pairs are kept, whether a pair is kept, whether a word is accepted, or the counts of a reduced book.
+#[derive(Clone, Copy, PartialEq, Eq, Debug)]
 pub enum Answer {
     Ticket(u32),
     State(u16),
@@ -59,5 +58,4 @@ pub enum Answer {
     Kept(bool),
     Accepts(bool),
     Counts(Counts),
-    Declined(Refusal),
 }

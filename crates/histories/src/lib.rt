@@ -9,7 +9,9 @@
 mod calls;
 mod performing;
 mod replaying;
+mod scene;
 mod tickets;
 
 pub use calls::{Answer, Call};
-pub use replaying::{Reduction, reduce_after, replay};
+pub use replaying::Reduction;
+pub use scene::Scene;

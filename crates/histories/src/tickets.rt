@@ -14,10 +14,7 @@ pub(crate) fn draw<P>(scratch: &mut Book<'_, P>) -> Ticket
     ensures opens { (view scratch.new).condition ≡ Open }
     ensures same { (view scratch.new).number ≡ (view scratch.old).number }
 {
-    match scratch.open() {
-        Ok(ticket) => ticket,
-        Err(_) => unreachable(),
-    }
+    scratch.open().unwrap()
 }
 
 // Spends a ticket on an open book with its number.
@@ -26,8 +23,10 @@ pub(crate) fn spend<L: LabelAlgebra>(
     scratch: &mut Book<'_, L::Predicate>,
     ticket: Ticket,
 )
-    requires { ((view scratch.old).condition ≡ Open) × (ticket.number ≡ (view scratch.old).number) }
+    requires open { (view scratch.old).condition ≡ Open }
+    requires own { ticket.number ≡ (view scratch.old).number }
 {
+    // Not `unwrap`: an error would hold a ticket, which may not be let go.
     match scratch.settle(labels, ticket) {
         Ok(_) => (),
         Err(_) => unreachable(),

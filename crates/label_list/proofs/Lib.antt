@@ -1,2 +1,2 @@
-pub mod Says
 pub mod Law
+pub mod Refused

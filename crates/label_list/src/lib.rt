@@ -4,14 +4,19 @@
 // accepted whole.
 #![tactic(auto)]
 
-ghost use Rattle.std.specs.Prelude.{◌≡◌, ◌+◌, ◌^◌, ◌<◌, ◌≤◌, List, [], length, Ok, Err, MatchResult, ◌≢◌};
+ghost use Rattle.std.specs.Prelude.{◌≡◌, List, length, Ok, MatchResult, ◌≢◌};
+ghost use Rattle.std.specs.Option.{ok_or};
 ghost use Rattle.labels.specs.CutLists.{cuts_of};
 ghost use Rattle.lines.specs.Fields.{fields};
-ghost use Rattle.label_list.specs.Lists.{labels_text, list_text, NoList, label_says, line_says, text_says, list_says, ByFault, Refuses};
+ghost use Rattle.lines.specs.Texts.{text_says, ByFault, Refuses};
+ghost use Rattle.lines.specs.declared.Fault.TheVariants as fault;
+ghost use Rattle.written.specs.Texts.{reads_whole};
+ghost use Rattle.label_list.specs.Lists.{labels_text, list_text, NoList, line_says, list_says};
 
 use header::read_cuts;
 use labels::{Both, CodePoints, Cuts, LabelAlgebra, StyleMarks, Sum};
-use lines::{Fault, Place, count_fields, first_field, is_word, next_line};
+pub use lines::Refusal;
+use lines::{Fault, Field, Line, Lines};
 use std::alloc::Global;
 use written::{WrittenAlgebra, read_whole};
 
@@ -22,102 +27,51 @@ pub struct LabelList {
     pub labels: Vec<Both<u64, u64>>,
 }
 
-// Why there is no list: a fault in the text, or want of memory.
-#[derive(Clone, Copy)]
-pub enum Refusal {
-    Fault(Fault),
-    Memory,
-}
-
-// What a line behind the cuts says.
-#[derive(Clone, Copy)]
-pub enum Said<P> {
-    Label(P),
-    End,
-}
-
-// What a line that begins at `at` says, or its first fault.
-fn read_line<L: WrittenAlgebra>(a: &L, line: &[u8], at: Place) -> Result<Said<L::Predicate>, Fault>
-    requires { at.offset + length line.now < 2 ^ 63 }
-    ensures { result ≡ line_says (L.WrittenAlgebra.reads a.now) at (fields line.now) }
+// The label in a field.
+pub fn read_label<L: WrittenAlgebra>(a: &L, field: Field<'_>) -> Result<L::Predicate, Fault>
+    ensures { result ≡ ok_or (reads_whole (L.WrittenAlgebra.reads a.now) field.entry.bytes.now) (fault.Label field.entry.at) }
 {
-    let word = first_field(line);
-    if is_word(word.bytes, b"label") {
-        let Some(rest) = word.rest else {
-            return Err(Fault::Count(at));
-        };
-        read_label(a, rest, at)
-    } else if is_word(word.bytes, b"end") {
-        match word.rest {
-            None => Ok(Said::End),
-            Some(_) => Err(Fault::Count(at)),
+    read_whole(a, field.bytes).ok_or(Fault::Label(field.at))
+}
+
+// The label that a line says, or none at the end, or the line's first fault.
+fn read_line<L: WrittenAlgebra>(a: &L, line: Line<'_>) -> Result<Option<L::Predicate>, Fault>
+    ensures { result ≡ line_says (L.WrittenAlgebra.reads a.now) line.entry.at (fields line.entry.bytes.now) }
+{
+    let word = line.field(0).bytes;
+    let count = line.count();
+    // Tried as a `match` on byte strings with guards: the proof of its arms did not close.
+    if word == b"label".as_slice() {
+        if count != 2 {
+            return Err(Fault::Count(line.at));
         }
+        Ok(Some(read_label(a, line.field(1))?))
+    } else if word == b"end".as_slice() {
+        if count != 1 {
+            return Err(Fault::Count(line.at));
+        }
+        Ok(None)
     } else {
-        Err(Fault::Word(at))
+        Err(Fault::Word(line.at))
     }
 }
 
-// The label in what stands behind `label,`.
-fn read_label<L: WrittenAlgebra>(a: &L, rest: &[u8], at: Place) -> Result<Said<L::Predicate>, Fault>
-    requires { at.offset + length rest.now < 2 ^ 63 }
-    ensures { result ≡ label_says (L.WrittenAlgebra.reads a.now) at (fields rest.now) }
-{
-    let field = first_field(rest);
-    if field.rest.is_some() {
-        return Err(Fault::Count(at));
-    }
-    match read_whole(a, field.bytes) {
-        Some(p) => Ok(Said::Label(p)),
-        None => Err(Fault::Label(Place {
-            line: at.line,
-            offset: at.offset + 6,
-        })),
-    }
-}
-
-// The labels of the lines from `start` on, up to the end.
-fn read_lines<L: WrittenAlgebra>(
+// The labels of the lines that are left, up to the end.
+fn read_labels<L: WrittenAlgebra>(
     a: &L,
     heap: Global,
-    text: &[u8],
-    start: Place,
+    mut lines: Lines<'_>,
 ) -> Result<Vec<L::Predicate>, Refusal>
-    requires { (start.offset + length text.now < 2 ^ 63) × (start.line ≤ start.offset + 1) }
-    ensures value { MatchResult result (λ v. text_says (L.WrittenAlgebra.reads a.now) [] start text.now ≡ Ok v.items) (Refuses (text_says (L.WrittenAlgebra.reads a.now) [] start text.now)) }
-    ensures law { MatchResult result (λ v. text.now ≡ labels_text (L.WrittenAlgebra.text a.now) v.items) (ByFault (λ f. (labels : List L.Predicate) → text.now ≢ labels_text (L.WrittenAlgebra.text a.now) labels)) }
+    ensures value { MatchResult result (λ v. text_says (line_says (L.WrittenAlgebra.reads a.now)) lines.entry.at lines.entry.left.now ≡ Ok v.items) (Refuses (text_says (line_says (L.WrittenAlgebra.reads a.now)) lines.entry.at lines.entry.left.now)) }
+    ensures law { MatchResult result (λ v. lines.entry.left.now ≡ labels_text (L.WrittenAlgebra.text a.now) v.items) (ByFault (λ f. (labels : List L.Predicate) → lines.entry.left.now ≢ labels_text (L.WrittenAlgebra.text a.now) labels)) }
 {
     let mut labels = Vec::new(heap);
-    let mut at = start;
-    let mut left = text;
-    while let Some(line) = next_line(left) {
-        let next = Place {
-            line: at.line + 1,
-            offset: at.offset + line.bytes.len() + 1,
-        };
-        let said = match read_line(a, line.bytes, at) {
-            Ok(said) => said,
-            Err(fault) => return Err(Refusal::Fault(fault)),
-        };
-        match said {
-            Said::Label(p) => {
-                if labels.push(p).is_err() {
-                    return Err(Refusal::Memory);
-                }
-            }
-            Said::End => {
-                if line.rest.is_empty() {
-                    return Ok(labels);
-                }
-                return Err(Refusal::Fault(Fault::Stop(next)));
-            }
-        }
-        at = next;
-        left = line.rest;
+    // No `for`: a text that stops before its last line is a fault, not an end.
+    while let Some(p) = read_line(a, lines.next_line()?)? {
+        labels.push(p)?;
     }
-    Err(Refusal::Fault(Fault::Stop(Place {
-        line: at.line,
-        offset: at.offset + left.len(),
-    })))
+    lines.end()?;
+    Ok(labels)
 }
 
 // The list that a text says, or its first fault.
@@ -125,26 +79,12 @@ pub fn read_list(heap: Global, text: &[u8]) -> Result<LabelList, Refusal>
     ensures value { MatchResult result (λ l. list_says text.now ≡ Ok (record { cuts = cuts_of l.cuts; labels = l.labels.items })) (Refuses (list_says text.now)) }
     ensures law { MatchResult result (λ l. text.now ≡ list_text (cuts_of l.cuts) l.labels.items) (ByFault (λ f. NoList text.now)) }
 {
-    let Some(first) = next_line(text) else {
-        return Err(Refusal::Fault(Fault::Stop(Place {
-            line: 1,
-            offset: text.len(),
-        })));
-    };
-    let cuts = match read_cuts(first.bytes) {
-        Ok(cuts) => cuts,
-        Err(fault) => return Err(Refusal::Fault(fault)),
-    };
+    let mut lines = Lines::of(text);
+    let cuts = read_cuts(lines.next_line()?)?;
     let styled = Sum {
         left: StyleMarks,
         right: CodePoints { cuts },
     };
-    let start = Place {
-        line: 2,
-        offset: first.bytes.len() + 1,
-    };
-    match read_lines(&styled, heap, first.rest, start) {
-        Ok(labels) => Ok(LabelList { cuts, labels }),
-        Err(refusal) => Err(refusal),
-    }
+    let labels = read_labels(&styled, heap, lines)?;
+    Ok(LabelList { cuts, labels })
 }

@@ -1,14 +1,12 @@
 use super::{Deep, is_within_leaves};
-use labels::{Both, CodePoints, Cuts, Either, LabelAlgebra, StyleMarks, Sum, is_same};
+use labels::{BadCut, Both, CodePoints, Cuts, Either, LabelAlgebra, StyleMarks, Sum, is_same};
 use written::{WrittenAlgebra, read_whole};
 
 // A thousand apart.
 fn many_cuts(n: u32) -> Cuts {
     let mut cuts = Cuts::none();
-    for i in 1..64 {
-        if i <= n {
-            let _ = cuts.push(1000 * i);
-        }
+    for i in 1..=n.min(63) {
+        let _ = cuts.push(1000 * i);
     }
     cuts
 }
@@ -17,27 +15,21 @@ fn many_cuts(n: u32) -> Cuts {
 fn a_64th_cut_is_refused(rt: HostRuntime) {
     let mut cuts = many_cuts(63);
     assert_eq!(rt; cuts.len(), 63);
-    assert!(rt; !cuts.push(64_000));
+    assert_eq!(rt; cuts.push(64_000), Err(BadCut));
     assert_eq!(rt; cuts.segment(62_999), 62);
     assert_eq!(rt; cuts.segment(63_000), 63);
-    assert!(rt; !Cuts::none().push(0));
-    assert!(rt; !Cuts::none().push(1_114_112));
-    assert!(rt; Cuts::new(&[97, 97]).is_none());
-    assert!(rt; Cuts::new(&[97, 123]).is_some());
+    assert_eq!(rt; Cuts::none().push(0), Err(BadCut));
+    assert_eq!(rt; Cuts::none().push(1_114_112), Err(BadCut));
+    assert!(rt; Cuts::try_from([97, 97].as_slice()).is_err());
+    assert!(rt; Cuts::try_from([97, 123].as_slice()).is_ok());
 }
 
 #[test]
-fn the_surrogates_are_2048_of_all_code_points(rt: HostRuntime) {
-    let mut cuts = Cuts::none();
-    assert!(rt; cuts.push(55_296) && cuts.push(57_344));
+fn the_surrogates_are_2048_of_all_code_points(rt: HostRuntime) -> Result<(), BadCut> {
+    let cuts = Cuts::try_from([55_296, 57_344].as_slice())?;
     let a = CodePoints { cuts };
-    let mut n = 0u32;
-    for c in 0..1_200_000 {
-        if a.test(2, c) {
-            n = n.saturating_add(1);
-        }
-    }
-    assert_eq!(rt; n, 2_048);
+    assert_eq!(rt; (0..1_200_000).filter(|c| a.test(2, *c)).count(), 2_048);
+    Ok(())
 }
 
 #[test]

@@ -1,5 +1,5 @@
 -- Lists of cuts, and the segments that they make of the code points.
-use Rattle.std.specs.Prelude.{ℕ, zero, suc, ◌+◌, ◌-◌, ◌<◌, ◌≤◌, Bool, cond, ◌&&◌, List, [], ◌∷◌, length, nat_le, nat_lt, slice_index}
+use Rattle.std.specs.Prelude.{ℕ, zero, suc, ◌+◌, ◌-◌, ◌<◌, ◌≤◌, Bool, ◌&&◌, List, length, count_by, nat_le, nat_lt, slice_index}
 use Rattle.bits.specs.Bit.{bit}
 
 -- the code points are the numbers 0 to 1,114,111
@@ -19,8 +19,7 @@ goes_on cuts cut = nat_lt (length cuts) 63 && (nat_lt (slice_index cuts (length 
 
 -- the segment of c is the number of cuts at or below c
 unfoldable pub segment : List ℕ → ℕ → ℕ
-segment [] c = 0
-segment (cut ∷ cuts) c = cond (nat_le cut c) 1 0 + segment cuts c
+segment cuts c = count_by (λ cut. nat_le cut c) cuts
 
 -- a predicate holds of a code point when the bit of its segment is set
 abbrev pub point_holds : List ℕ → ℕ → ℕ → Bool

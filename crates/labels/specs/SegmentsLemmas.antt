@@ -1,43 +1,30 @@
 -- What a rising list of cuts makes of its segments.
-use Rattle.std.specs.Prelude.{◌≡◌, ℕ, zero, suc, ◌+◌, ◌-◌, ◌<◌, ◌≤◌, Bool, true, false, cond, ◌⊎◌, List, [], ◌∷◌, ◌++◌, length, take, nat_le, nat_lt, slice_index, slice_index_or}
+use Rattle.std.specs.Prelude.{◌≡◌, ℕ, zero, suc, ◌+◌, ◌-◌, ◌<◌, ◌≤◌, true, cond, ◌⊎◌, List, [], ◌∷◌, length, take, nat_le, nat_lt, slice_index, slice_index_or}
 use Rattle.std.proofs.Common.{sym, ap, ap₂, ◌∙◌, subst, inl, inr, arith}
-use Rattle.std.proofs.lemmas.List.{get_or-take, length-take-le, take_more}
+use Rattle.std.proofs.lemmas.List.{get_or-take, length-take-le}
+use Rattle.std.proofs.lemmas.List.Sums.{count_by-le-length, sum_by-cons}
 use Rattle.std.proofs.lemmas.Bool.{and_from, le-leb, lt-leb, lt-ltb, cases_order}
 use Rattle.labels.specs.Segments.{is_point, Rising, goes_on, segment, first_of_segment}
 
-segment_push : (cuts : List ℕ) (cut c : ℕ) → segment (cuts ++ (cut ∷ [])) c ≡ segment cuts c + cond (nat_le cut c) 1 0
-unfolding segment
-segment_push [] cut c = omega arith
-segment_push (x ∷ cuts) cut c = omega (arith, segment_push cuts cut c)
-
-segment_more : (cuts : List ℕ) (i c : ℕ) → i < length cuts → segment (take (i + 1) cuts) c ≡ segment (take i cuts) c + cond (nat_le (slice_index cuts i) c) 1 0
-segment_more cuts i c h = ap (λ xs. segment xs c) (take_more cuts i 0 h) ∙ segment_push (take i cuts) (slice_index cuts i) c
-
-pub segment_hit : (cuts : List ℕ) (i c : ℕ) → i < length cuts → slice_index cuts i ≤ c → segment (take (i + 1) cuts) c ≡ segment (take i cuts) c + 1
-segment_hit cuts i c h l = segment_more cuts i c h ∙ ap (λ t. segment (take i cuts) c + cond t 1 0) (le-leb (slice_index cuts i) c l)
-
-pub segment_miss : (cuts : List ℕ) (i c : ℕ) → i < length cuts → c < slice_index cuts i → segment (take (i + 1) cuts) c ≡ segment (take i cuts) c
-segment_miss cuts i c h l = segment_more cuts i c h ∙ ap (λ t. segment (take i cuts) c + cond t 1 0) (lt-leb (slice_index cuts i) c l) ∙ omega arith
-
 pub segment_le : (cuts : List ℕ) (c : ℕ) → segment cuts c ≤ length cuts
 unfolding segment
-segment_le [] c = omega arith
-segment_le (x ∷ cuts) c = by (nat_le x c) (segment_le cuts c)
-  where
-    by : (t : Bool) → segment cuts c ≤ length cuts → cond t 1 0 + segment cuts c ≤ suc (length cuts)
-    by true h = omega arith
-    by false h = omega arith
+segment_le cuts c = count_by-le-length (λ cut. nat_le cut c) cuts
+
+pub segment-cons : (cut c : ℕ) (cuts : List ℕ) → segment (cut ∷ cuts) c ≡ cond (nat_le cut c) 1 0 + segment cuts c
+unfolding segment
+segment-cons cut c cuts = sum_by-cons (λ x. cond (nat_le x c) 1 0) cut cuts
 
 -- where the first s cuts are at or below c, and no other
-pub segment_is : (cuts : List ℕ) (c s : ℕ) → s ≤ length cuts → ((i : ℕ) → i < s → slice_index cuts i ≤ c) → ((i : ℕ) → s ≤ i → i < length cuts → c < slice_index cuts i)
+segment_is : (cuts : List ℕ) (c s : ℕ) → s ≤ length cuts → ((i : ℕ) → i < s → slice_index cuts i ≤ c) → ((i : ℕ) → s ≤ i → i < length cuts → c < slice_index cuts i)
     → segment cuts c ≡ s
-unfolding segment
-segment_is [] c s h low high = omega arith
+segment_is [] c s h low high = omega (arith, segment_le [] c)
 segment_is (x ∷ cuts) c zero h low high =
-    ap₂ (λ t n. cond t 1 0 + n) (lt-leb x c (high 0 (omega arith) (omega arith)))
+    segment-cons x c cuts
+    ∙ ap₂ (λ t n. cond t 1 0 + n) (lt-leb x c (high 0 (omega arith) (omega arith)))
     (segment_is cuts c 0 (omega arith) (λ i l. absurd (omega arith)) (λ i a b. high (suc i) (omega arith) (omega arith)))
 segment_is (x ∷ cuts) c (suc s) h low high =
-    ap₂ (λ t n. cond t 1 0 + n) (le-leb x c (low 0 (omega arith)))
+    segment-cons x c cuts
+    ∙ ap₂ (λ t n. cond t 1 0 + n) (le-leb x c (low 0 (omega arith)))
     (segment_is cuts c s (omega arith) (λ i l. low (suc i) (omega arith)) (λ i a b. high (suc i) (omega arith) (omega arith)))
     ∙ omega arith
 

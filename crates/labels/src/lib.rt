@@ -5,7 +5,7 @@
 // meaning. No operation refuses, allocates or alters anything.
 #![tactic(auto)]
 
-ghost use Rattle.std.specs.Prelude.{◌≡◌, Bool, true, false, not, ◌&&◌, ◌||◌, Decides, MatchOption};
+ghost use Rattle.std.specs.Prelude.{◌≡◌, Bool, true, false, not, ◌&&◌, ◌||◌, IsTrue, ◌↔◌, MatchOption};
 
 mod code_points;
 mod cuts;
@@ -13,7 +13,7 @@ mod style_marks;
 mod sum;
 
 pub use code_points::CodePoints;
-pub use cuts::Cuts;
+pub use cuts::{BadCut, Cuts};
 pub use style_marks::StyleMarks;
 pub use sum::{Both, Either, Sum};
 
@@ -64,17 +64,22 @@ pub trait LabelAlgebra {
 
 // Whether all symbols of `p` belong to `q`.
 pub fn is_within<L: LabelAlgebra>(a: &L, p: L::Predicate, q: L::Predicate) -> bool
-    ensures { Decides result ((v : L.Value) → L.LabelAlgebra.holds a.now p v ≡ true → L.LabelAlgebra.holds a.now q v ≡ true) }
+    ensures { IsTrue result ↔ ((v : L.Value) → L.LabelAlgebra.holds a.now p v ≡ true → L.LabelAlgebra.holds a.now q v ≡ true) }
 {
-    match a.sample(a.meet(p, a.complement(q))) {
-        Some(_) => false,
-        None => true,
-    }
+    a.sample(a.meet(p, a.complement(q))).is_none()
 }
 
 // Whether two predicates hold of the same symbols.
 pub fn is_same<L: LabelAlgebra>(a: &L, p: L::Predicate, q: L::Predicate) -> bool
-    ensures { Decides result ((v : L.Value) → L.LabelAlgebra.holds a.now p v ≡ L.LabelAlgebra.holds a.now q v) }
+    ensures { IsTrue result ↔ ((v : L.Value) → L.LabelAlgebra.holds a.now p v ≡ L.LabelAlgebra.holds a.now q v) }
 {
     is_within(a, p, q) && is_within(a, q, p)
+}
+
+// Whether a predicate holds of some symbol: an absent sample is the only test.
+pub fn is_satisfiable<L: LabelAlgebra>(a: &L, p: L::Predicate) -> bool
+    ensures value { result ≡ L.LabelAlgebra.satisfiable a.now p }
+    ensures symbol { IsTrue result ↔ ((v : L.Value) × (L.LabelAlgebra.holds a.now p v ≡ true)) }
+{
+    a.sample(p).is_some()
 }

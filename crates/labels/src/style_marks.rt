@@ -9,9 +9,10 @@ ghost use Rattle.bits.proofs.Lows.{some_bit_at, no_bit};
 use crate::LabelAlgebra;
 
 // The symbols are the numbers 0 to 63; a predicate holds of `s` exactly when bit `s` is set.
-#[derive(Clone, Copy)]
+#[derive(Clone, Copy, PartialEq, Eq, Debug)]
 pub struct StyleMarks;
 
+#[tactic(auto, using(crate::proofs::Gates::word_bits))]
 impl LabelAlgebra for StyleMarks {
     type Value = u8;
 
@@ -29,6 +30,7 @@ impl LabelAlgebra for StyleMarks {
 
     ghost barren = { λ a p t v. no_bit p t v };
 
+    // The four operations stand in code_points.rt too: one operator each, which a trait between them would not shorten.
     fn none(&self) -> u64 {
         0
     }
@@ -46,13 +48,10 @@ impl LabelAlgebra for StyleMarks {
     }
 
     fn test(&self, p: u64, v: u8) -> bool {
-        bits::is_set(p, v as usize)
+        bits::is_set(p, usize::from(v))
     }
 
     fn sample(&self, p: u64) -> Option<u8> {
-        match bits::lowest(p) {
-            Some(s) => Some(s as u8),
-            None => None,
-        }
+        bits::lowest(p).map(|s| s as u8)
     }
 }

@@ -9,21 +9,21 @@ ghost use Rattle.labels.specs.declared.sum.Either.TheVariants.{Left, Right};
 use crate::LabelAlgebra;
 
 // A left or a right symbol.
-#[derive(Clone, Copy)]
+#[derive(Clone, Copy, PartialEq, Eq, Debug)]
 pub enum Either<V, W> {
     Left(V),
     Right(W),
 }
 
 // A predicate for each side.
-#[derive(Clone, Copy)]
+#[derive(Clone, Copy, PartialEq, Eq, Debug)]
 pub struct Both<P, Q> {
     pub left: P,
     pub right: Q,
 }
 
 // Two algebras by value; each half of a predicate holds of its own side.
-#[derive(Clone, Copy, Drop)]
+#[derive(Clone, Copy, PartialEq, Eq, Debug, Drop)]
 pub struct Sum<L, R> {
     pub left: L,
     pub right: R,
@@ -50,6 +50,7 @@ impl<L: LabelAlgebra, R: LabelAlgebra> LabelAlgebra for Sum<L, R> {
 
     ghost barren = { Prim.search rules };
 
+    // Each operation asks both halves, which are of two types, so that no closure could stand for the call.
     fn none(&self) -> Both<L::Predicate, R::Predicate> {
         Both {
             left: self.left.none(),
@@ -94,12 +95,10 @@ impl<L: LabelAlgebra, R: LabelAlgebra> LabelAlgebra for Sum<L, R> {
     }
 
     fn sample(&self, p: Both<L::Predicate, R::Predicate>) -> Option<Either<L::Value, R::Value>> {
+        // No `map`: the type of the other side stands in its result alone, and such a call gets no proof.
         match self.left.sample(p.left) {
             Some(x) => Some(Either::Left(x)),
-            None => match self.right.sample(p.right) {
-                Some(y) => Some(Either::Right(y)),
-                None => None,
-            },
+            None => Some(Either::Right(self.right.sample(p.right)?)),
         }
     }
 }

@@ -1,2 +1,5 @@
-pub mod Fields
+pub mod Parts
 pub mod Numbers
+pub mod Results
+pub mod Texts
+pub mod Passing

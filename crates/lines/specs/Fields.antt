@@ -1,6 +1,7 @@
 -- The lines of a text, each of which a byte 10 ends, and the fields of a line, which commas (44) part.
-use Rattle.std.specs.Prelude.{◌≡◌, ℕ, cond, List, [], ◌∷◌, ◌++◌, Some, None, Option, ◌==◌, ◌≢◌}
-use Rattle.std.specs.List.{AllByRecursion}
+use Rattle.std.specs.Prelude.{◌≡◌, ℕ, ◌+◌, cond, List, [], ◌∷◌, ◌++◌, length, Some, None, Option, ◌==◌, ◌≢◌}
+use Rattle.std.specs.Borrow.{Bor}
+use Rattle.std.specs.List.{AllByRecursion, slice_split}
 
 -- no byte is b
 abbrev pub Free : ℕ → List ℕ → Type 0
@@ -29,17 +30,15 @@ unfoldable pub split : List ℕ → Split
 split [] = record { whole = []; rest = [] }
 split (x ∷ xs) = cond (x == 10) (above [] (split xs)) (before x (split xs).whole (split xs).rest)
 
--- a byte more in front of the first field
-abbrev pub onto : ℕ → List (List ℕ) → List (List ℕ)
-onto x [] = (x ∷ []) ∷ []
-onto x (f ∷ fs) = (x ∷ f) ∷ fs
-
 -- what stands between the commas of a line: one field more than there are commas
 unfoldable pub fields : List ℕ → List (List ℕ)
-fields [] = [] ∷ []
-fields (x ∷ xs) = cond (x == 44) ([] ∷ fields xs) (onto x (fields xs))
+fields line = slice_split (λ b. b == 44) line
 
--- the fields behind the first, from what stands behind its comma
-abbrev pub others : Option (List ℕ) → List (List ℕ)
-others None = []
-others (Some rest) = fields rest
+-- the fields that are left of a line, from what stands behind the last comma that was passed, and how many bytes these are, each field with its comma
+abbrev pub left_fields : Option (Bor (List ℕ)) → List (List ℕ)
+left_fields None = []
+left_fields (Some rest) = fields rest.now
+
+abbrev pub left_size : Option (Bor (List ℕ)) → ℕ
+left_size None = 0
+left_size (Some rest) = length rest.now + 1

@@ -1,3 +1,5 @@
 pub mod Fields
 pub mod Numbers
 pub mod Faults
+pub mod Places
+pub mod Texts

@@ -4,20 +4,49 @@
 // left to the formats.
 #![tactic(auto)]
 
-ghost use Rattle.std.specs.Prelude.{◌≡◌, ℕ, ◌≤◌, ◌&&◌, [], ◌∷◌, ◌++◌, length, decimal, MatchOption, ◌≢◌, nat_le};
-ghost use Rattle.std.specs.Option.{option_map};
-ghost use Rattle.std.specs.Bool.{then_some};
-ghost use Rattle.std.specs.Str.Parse.{digits_value};
-ghost use Rattle.std.specs.Str.{all_ascii_digits, bytes_eq};
-ghost use Rattle.lines.specs.Faults.{fault_number, fault_place};
-ghost use Rattle.lines.specs.Fields.{Free, Parted, fields, others, split, above};
-ghost use Rattle.lines.specs.Numbers.{number_in};
+ghost use Rattle.std.specs.Prelude.{◌≡◌, ◌+◌, ◌<◌, ◌^◌, ◌∷◌, ◌++◌, decimal, Some};
+ghost use Rattle.lines.specs.Faults.{fault_number, fault_place, place_text, fault_text, fault_numbers};
+ghost use Rattle.lines.specs.Places.{further};
+ghost use Rattle.lines.specs.declared.Refusal.TheVariants.{Fault, Memory};
+
+mod decimals;
+mod fields;
+mod text;
+
+pub use decimals::read_number;
+pub use fields::{Field, Fields};
+use std::alloc::{AllocError, AllocFailed};
+use std::fmt;
+pub use text::{Line, Lines};
 
 // A place in a text: its line, from 1, and its byte, from 0, both counted from the text's start.
 #[derive(Clone, Copy, PartialEq, Eq, Debug)]
 pub struct Place {
     pub line: usize,
     pub offset: usize,
+}
+
+impl Place {
+    // The place `n` bytes further on in the same line.
+    pub(crate) fn further(self, n: usize) -> Place
+        requires { self.offset + n < 2 ^ 64 }
+        ensures { result ≡ further self n }
+    {
+        Place {
+            line: self.line,
+            offset: self.offset + n,
+        }
+    }
+}
+
+impl fmt::Display for Place {
+    ghost output = { λ p. Some (place_text p) };
+
+    fn fmt<W: fmt::Write>(&self, f: &mut fmt::Formatter<W>) -> fmt::Result {
+        let line = self.line;
+        let offset = self.offset;
+        write!(f, "{line},{offset}")
+    }
 }
 
 // Why a text is not accepted.
@@ -36,7 +65,8 @@ pub enum Fault {
 }
 
 impl Fault {
-    // The number by which the programs name the fault.
+    // The number by which the programs name the fault. A table, since a variant that holds a place cannot bear its
+    // number as a plain one can.
     pub fn number(&self) -> u8
         ensures { result ≡ fault_number self.now }
     {
@@ -62,103 +92,59 @@ impl Fault {
     }
 }
 
-// The first line of a text, and what stands behind the byte 10 that ends it.
+impl fmt::Display for Fault {
+    ghost output = { λ f. Some (fault_text f) };
+
+    fn fmt<W: fmt::Write>(&self, f: &mut fmt::Formatter<W>) -> fmt::Result {
+        let number = self.number();
+        let place = self.place();
+        write!(f, "{number},{place}")
+    }
+}
+
+// Why nothing was read: a fault in the text, or want of memory.
 #[derive(Clone, Copy, PartialEq, Eq, Debug)]
-pub struct Line<'a> {
-    pub bytes: &'a [u8],
-    pub rest: &'a [u8],
+pub enum Refusal {
+    Fault(Fault),
+    Memory,
 }
 
-// The first field of a line, and what stands behind its comma, if there is one.
-#[derive(Clone, Copy, Debug)]
-pub struct Field<'a> {
-    pub bytes: &'a [u8],
-    pub rest: Option<&'a [u8]>,
+impl From<Fault> for Refusal {
+    ghost from_gives = { λ f r. r ≡ Fault f };
+
+    fn from(fault: Fault) -> Refusal {
+        Refusal::Fault(fault)
+    }
 }
 
-// What stands before and behind the first `by`.
-fn cut(text: &[u8], by: u8) -> Option<(&[u8], &[u8])>
-    ensures { MatchOption result (Free by text.now) (λ p. Parted by text.now p.0.now p.1.now) }
+impl From<AllocError> for Refusal {
+    ghost from_gives = { λ _ r. r ≡ Memory };
+
+    fn from(_e: AllocError) -> Refusal {
+        Refusal::Memory
+    }
+}
+
+impl<T: Drop> From<AllocFailed<T>> for Refusal {
+    ghost from_gives = { λ _ r. r ≡ Memory };
+
+    fn from(_e: AllocFailed<T>) -> Refusal {
+        Refusal::Memory
+    }
+}
+
+// The number, line and offset of the fault of a text that was read; none where it was accepted.
+pub fn fault_of<T: Drop>(read: Result<T, Refusal>) -> Result<Option<(u8, usize, usize)>, AllocError>
+    ensures { result ≡ fault_numbers read }
 {
-    for i in 0..text.len() {
-        if text[i] == by {
-            return Some((&text[0..i], &text[i + 1..]));
+    // All three ways end here, so there is no `?`; as numbers, since so the formats name a fault.
+    match read {
+        Ok(_) => Ok(None),
+        Err(Refusal::Fault(fault)) => {
+            let place = fault.place();
+            Ok(Some((fault.number(), place.line, place.offset)))
         }
-    }
-    None
-}
-
-// The first line of a text; none where no byte 10 is left, since only that byte ends a line.
-pub fn next_line(text: &[u8]) -> Option<Line<'_>>
-    ensures value { MatchOption result (split text.now ≡ record { whole = []; rest = text.now }) (λ l. split text.now ≡ above l.bytes.now (split l.rest.now)) }
-    ensures cases { MatchOption result (Free 10 text.now) (λ l. Parted 10 text.now l.bytes.now l.rest.now) }
-{
-    let (bytes, rest) = cut(text, b'\n')?;
-    Some(Line { bytes, rest })
-}
-
-// The first field of a line: every line has one, which may be empty.
-pub fn first_field(line: &[u8]) -> Field<'_>
-    ensures value { fields line.now ≡ result.bytes.now ∷ others (option_map (λ x. x.now) result.rest) }
-    ensures cases { MatchOption result.rest (line.now ≡ result.bytes.now) (λ rest. line.now ≡ result.bytes.now ++ (44 ∷ rest.now)) }
-    ensures free { Free 44 result.bytes.now }
-{
-    match cut(line, b',') {
-        Some((bytes, rest)) => Field {
-            bytes,
-            rest: Some(rest),
-        },
-        None => Field {
-            bytes: line,
-            rest: None,
-        },
-    }
-}
-
-// How many fields a line has: one more than it has commas.
-pub fn count_fields(line: &[u8]) -> usize
-    ensures { result ≡ length (fields line.now) }
-{
-    let mut count = 1;
-    for b in line {
-        if *b == b',' {
-            count += 1;
-        }
-    }
-    count
-}
-
-// Whether a field is this word.
-pub fn is_word(field: &[u8], word: &[u8]) -> bool
-    ensures { result ≡ bytes_eq field.now word.now }
-{
-    field == word
-}
-
-// The value of a field of digits alone, if it is at most `most`.
-fn read_digits(field: &[u8], most: u32) -> Option<u32>
-    ensures { result ≡ then_some (all_ascii_digits field.now && nat_le (digits_value 10 field.now) most) (digits_value 10 field.now) }
-{
-    let mut n: u64 = 0;
-    for b in field {
-        n = n * 10 + u64::from(char::from(*b).to_digit(10)?);
-        // Stopping here keeps `n` small, however long the field is.
-        if n > u64::from(most) {
-            return None;
-        }
-    }
-    Some(n as u32)
-}
-
-// The number whose decimal text, without leading zeros, the field is, if it is at most `most`.
-pub fn read_number(field: &[u8], most: u32) -> Option<u32>
-    ensures value { result ≡ number_in most field.now }
-    ensures cases { MatchOption result ((n : ℕ) → n ≤ most → field.now ≢ decimal n) (λ n. (n ≤ most) × (field.now ≡ decimal n)) }
-{
-    match field {
-        [] => None,
-        [b'0', _, ..] => None,
-        _ => read_digits(field, most),
+        Err(Refusal::Memory) => Err(AllocError),
     }
 }
 
@@ -186,21 +172,46 @@ mod tests {
 
     #[test]
     fn only_a_byte_10_ends_a_line(rt: HostRuntime) {
+        let mut lines = Lines::of(b"a,\xff\n\nb");
+        let first = lines.next_line();
+        assert_eq!(rt; first.map(|l| l.bytes), Ok(b"a,\xff".as_slice()));
+        assert_eq!(rt; lines.left, b"\nb".as_slice());
         assert_eq!(rt;
-            next_line(b"a,\xff\n\nb"),
-            Some(Line {
-                bytes: b"a,\xff",
-                rest: b"\nb",
-            })
+            Lines::of(b"a,b\r").next_line().map(|l| l.bytes),
+            Err(Fault::Stop(Place { line: 1, offset: 4 }))
         );
-        assert_eq!(rt; next_line(b"a,b\r"), None);
+    }
+
+    // The count of fields, the first field, and the second.
+    fn parts(bytes: &[u8]) -> (usize, &[u8], Option<&[u8]>) {
+        let line = Line {
+            bytes,
+            at: Place { line: 1, offset: 0 },
+        };
+        (
+            line.count(),
+            line.field(0).bytes,
+            line.fields().nth(1).map(|f| f.bytes),
+        )
+    }
+
+    // What is left behind the first field.
+    fn behind_first(bytes: &[u8]) -> Option<&[u8]> {
+        let line = Line {
+            bytes,
+            at: Place { line: 1, offset: 0 },
+        };
+        line.others().left
     }
 
     #[test]
     fn a_line_has_one_field_more_than_commas(rt: HostRuntime) {
-        assert_eq!(rt; count_fields(b""), 1);
-        assert_eq!(rt; count_fields(b"arrow,,\x80"), 3);
-        assert_eq!(rt; first_field(b",\x80,").bytes, b"".as_slice());
-        assert_eq!(rt; first_field(b",\x80,").rest, Some(b"\x80,".as_slice()));
+        assert_eq!(rt; parts(b""), (1, b"".as_slice(), None));
+        assert_eq!(rt; parts(b"arrow,,\x80").0, 3);
+        assert_eq!(rt;
+            parts(b",\x80,"),
+            (3, b"".as_slice(), Some(b"\x80".as_slice()))
+        );
+        assert_eq!(rt; behind_first(b",\x80,"), Some(b"\x80,".as_slice()));
     }
 }

@@ -1,5 +1,5 @@
 -- The next bit of a word that is set, runs of bits, and how many there are.
-use Rattle.std.proofs.Common.{◌≡◌, ℕ, zero, suc, ◌+◌, ◌-◌, ◌/◌, ◌%◌, ◌^◌, ◌<◌, ◌≤◌, true, false, cond, not, ◌&&◌, ltb, sym, refl, ap, ◌∙◌, subst, inl, inr, pow-suc, div-one, arith}
+use Rattle.std.proofs.Common.{◌≡◌, ℕ, zero, suc, ◌+◌, ◌-◌, ◌/◌, ◌%◌, ◌^◌, ◌<◌, ◌≤◌, true, false, cond, not, ◌&&◌, ltb, sym, refl, ap, ◌∙◌, subst, inl, inr, pow-suc, div-one, arith, Some, None, Option, MatchOption, unwrap_or}
 use lib.Count.{ones, ones_step}
 use Rattle.std.proofs.lemmas.Bool.{and_parts, both_ways, cases_lt, lt-ltb, not-false, not-true}
 use Rattle.std.proofs.lemmas.Bool.Decides.{nat_tests}
@@ -34,20 +34,30 @@ set_where_clear p k fits h t = not-false (bit p k) (ap (λ b. b && not (bit p k)
 clear_where_set : (p k : ℕ) → p < 2 ^ 64 → bit (2 ^ 64 - 1 - p) k ≡ true → bit p k ≡ false
 clear_where_set p k fits t = not-true (bit p k) (and_parts (ltb k 64) (not (bit p k)) (sym (bit_not p k fits) ∙ t)).1
 
--- a run ends below the next bit that is clear
-module _ (p from first end : ℕ) (fits : p < 2 ^ 64) (set : Next (bit p) from first) (clear : Next (bit (2 ^ 64 - 1 - p)) first end) where
-  pub bits_order : first < end
-  bits_order = elim (cases_lt first end) [
+module _ (p from first : ℕ) (fits : p < 2 ^ 64) (set : Next (bit p) from first) where
+  -- a run ends below the next bit that is clear, or at the last bit
+  pub end_after : (o : Option ℕ) → MatchOption o ((k : ℕ) → first ≤ k → bit (2 ^ 64 - 1 - p) k ≡ false) (λ end. Next (bit (2 ^ 64 - 1 - p)) first end) → first < unwrap_or o 64
+  end_after None clear = bit_within p first set.here
+  end_after (Some end) clear = elim (cases_lt first end) [
     | inl l ↦ l
     | inr g ↦
         let same : first ≡ end = omega (arith, clear.low) in
         absurd (both_ways (bit p end) (clear_where_set p end fits clear.here) (subst (λ n. bit p n ≡ true) same set.here))
   ]
 
-  pub run_to : Run (bit p) from first (end - 1)
-  run_to =
+  pub run_to : (o : Option ℕ) → MatchOption o ((k : ℕ) → first ≤ k → bit (2 ^ 64 - 1 - p) k ≡ false) (λ end. Next (bit (2 ^ 64 - 1 - p)) first end) → Run (bit p) from first (unwrap_or o 64 - 1)
+  run_to None clear =
+      let within : first < 64 = bit_within p first set.here in
+      record {
+        low = set.low;
+        order = omega arith;
+        before = set.before;
+        inside = λ k g h. set_where_clear p k fits (omega arith) (clear k g);
+        after = bit_none p 64 (omega arith);
+      }
+  run_to (Some end) clear =
       let within : end < 64 = bit_within (2 ^ 64 - 1 - p) end clear.here in
-      let later = bits_order in
+      let later = end_after (Some end) clear in
       let e : end ≡ end - 1 + 1 = omega arith in
       record {
         low = set.low;
@@ -56,18 +66,6 @@ module _ (p from first end : ℕ) (fits : p < 2 ^ 64) (set : Next (bit p) from f
         inside = λ k g h. set_where_clear p k fits (omega arith) (clear.before k g (omega arith));
         after = subst (λ n. bit p n ≡ false) e (clear_where_set p end fits clear.here);
       }
-
--- or at the last bit
-pub run_all : (p from first : ℕ) → p < 2 ^ 64 → Next (bit p) from first → ((k : ℕ) → first ≤ k → bit (2 ^ 64 - 1 - p) k ≡ false) → Run (bit p) from first 63
-run_all p from first fits set clear =
-    let within : first < 64 = bit_within p first set.here in
-    record {
-      low = set.low;
-      order = omega arith;
-      before = set.before;
-      inside = λ k g h. set_where_clear p k fits (omega arith) (clear k g);
-      after = bit_none p 64 (omega arith);
-    }
 
 lowest_digit : (n : ℕ) → cond (bit n 0) 1 0 ≡ n % 2
 unfolding bit

@@ -1,33 +1,25 @@
 -- A run of segments is a run of code points.
 use Rattle.std.proofs.Common.{◌≡◌, ℕ, ◌+◌, ◌-◌, ◌<◌, ◌≤◌, max, Bool, true, false, ◌&&◌, ltb, List, length, sym, ap, ◌∙◌, subst, inl, inr, arith}
-use Rattle.std.proofs.lemmas.Bool.{and_from, and_left, and_parts, and_right, cases_lt, le-leb, leb-true, lt-leb, lt-ltb, ltb-true}
+use Rattle.std.proofs.lemmas.Bool.{and_from, and_left, and_parts, and_right, cases_lt, le-leb, lt-leb, lt-ltb, ltb-true}
 use Rattle.bits.specs.Bit.{bit}
-use Rattle.labels.specs.CutLists.{cuts_of}
-use Rattle.labels.specs.declared.code_points.CodePoints.{CodePoints}
 use Rattle.labels.specs.Segments.{is_point, Rising, segment}
 use Rattle.labels.specs.SegmentsLemmas.{segment_le}
-use Rattle.ranges.specs.Meaning.{holds_point}
 use Rattle.ranges.specs.Runs.{Run}
 use Rattle.ranges.specs.Starts.{start_of}
 use Rattle.ranges.proofs.Starts.{segment_rises, start_past, start_point, start_le, segment_start, before_start, from_start, earlier}
 
--- a run of code points ends within them
-pub run_within : (a : CodePoints) (p from first last : ℕ) → Run (holds_point a p) from first last → last ≤ 1114111
-run_within a p from first last run =
-    leb-true last 1114111 (and_parts (is_point last) (bit p (segment (cuts_of a.cuts) last)) (run.inside last run.order (omega arith))).0
-
 -- a predicate p, and those of its bits that mean something
-module _ (cuts : List ℕ) (r : Rising cuts) (p real len : ℕ) (all : len ≡ length cuts) (low : (k : ℕ) → bit real k ≡ (ltb k (len + 1) && bit p k)) where
+module _ (cuts : List ℕ) (r : Rising cuts) (p real : ℕ) (low : (k : ℕ) → bit real k ≡ (ltb k (length cuts + 1) && bit p k)) where
   abbrev holds : ℕ → Bool
   holds c = is_point c && bit p (segment cuts c)
 
   bit_real : (c : ℕ) → bit real (segment cuts c) ≡ bit p (segment cuts c)
   bit_real c =
       let s = segment cuts c in
-      low s ∙ ap (λ b. b && bit p s) (lt-ltb s (len + 1) (omega (arith, all, segment_le cuts c)))
+      low s ∙ ap (λ b. b && bit p s) (lt-ltb s (length cuts + 1) (omega (arith, segment_le cuts c)))
 
   real_within : (s : ℕ) → bit real s ≡ true → s ≤ length cuts
-  real_within s t = omega (arith, all, ltb-true s (len + 1) (and_parts (ltb s (len + 1)) (bit p s) (sym (low s) ∙ t)).0)
+  real_within s t = omega (arith, ltb-true s (length cuts + 1) (and_parts (ltb s (length cuts + 1)) (bit p s) (sym (low s) ∙ t)).0)
 
   clear : (c : ℕ) → bit real (segment cuts c) ≡ false → holds c ≡ false
   clear c t = and_right (is_point c) (bit p (segment cuts c)) (sym (bit_real c) ∙ t)

@@ -3,25 +3,23 @@ use Rattle.std.proofs.Common.{◌≡◌, ℕ, zero, suc, ◌<◌, ◌≤◌, con
 use Rattle.std.proofs.lemmas.Bool.{cases_lt, le-leb, lt-leb}
 use Rattle.std.proofs.lemmas.Bool.Decides.{nat_tests}
 use Rattle.labels.specs.Segments.{Rising, segment, first_of_segment}
-use Rattle.labels.specs.SegmentsLemmas.{segment_le, segment_first, first_le}
+use Rattle.labels.specs.SegmentsLemmas.{segment-cons, segment_le, segment_first, first_le}
 use Rattle.ranges.specs.Starts.{start_of}
 
 cut_counts : (cut c d : ℕ) → c ≤ d → cond (leb cut c) 1 0 ≤ cond (leb cut d) 1 0
 cut_counts cut c d h = grind (arith, nat_tests)
 
 pub segment_rises : (cuts : List ℕ) (c d : ℕ) → c ≤ d → segment cuts c ≤ segment cuts d
-unfolding segment
-segment_rises [] c d h = omega arith
-segment_rises (x ∷ cuts) c d h = omega (arith, cut_counts x c d h, segment_rises cuts c d h)
+segment_rises [] c d h = omega (arith, segment_le [] c)
+segment_rises (x ∷ cuts) c d h = omega (arith, segment-cons x c cuts, segment-cons x d cuts, cut_counts x c d h, segment_rises cuts c d h)
 
 -- with a cut between them, the segments differ
 segment_passes : (cuts : List ℕ) (i c d : ℕ) → i < length cuts → c < get_or cuts i 0 → get_or cuts i 0 ≤ d → segment cuts c < segment cuts d
-unfolding segment
 segment_passes [] i c d h low high = absurd (omega arith)
 segment_passes (x ∷ cuts) zero c d h low high =
-    rw (lt-leb x c low, le-leb x d high) (omega (arith, segment_rises cuts c d (omega arith)))
+    rw (segment-cons x c cuts, segment-cons x d cuts, lt-leb x c low, le-leb x d high) (omega (arith, segment_rises cuts c d (omega arith)))
 segment_passes (x ∷ cuts) (suc i) c d h low high =
-    omega (arith, cut_counts x c d (omega arith), segment_passes cuts i c d (omega arith) low high)
+    omega (arith, segment-cons x c cuts, segment-cons x d cuts, cut_counts x c d (omega arith), segment_passes cuts i c d (omega arith) low high)
 
 module _ (cuts : List ℕ) (r : Rising cuts) where
   start_within : (s : ℕ) → s ≤ length cuts → start_of cuts s ≡ first_of_segment cuts s

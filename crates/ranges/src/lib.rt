@@ -4,16 +4,21 @@
 // code points costs one such call for each range. No function refuses or alters anything.
 #![tactic(auto)]
 
-ghost use Rattle.std.specs.Prelude.{◌≡◌, ℕ, ◌+◌, ◌≤◌, false, MatchOption};
+ghost use Rattle.std.specs.Prelude.{◌≡◌, ℕ, ◌+◌, ◌≤◌, false, Some, MatchOption};
 ghost use Rattle.bits.specs.Bit.{bit};
 ghost use Rattle.labels.specs.CutLists.{cuts_of};
 ghost use Rattle.labels.specs.declared.sum.Either.TheVariants.{Left, Right};
 ghost use Rattle.ranges.specs.Counts.{counted};
-ghost use Rattle.ranges.specs.Meaning.{holds_point, holds_symbol};
 ghost use Rattle.ranges.specs.Runs.{Next, Run};
 ghost use Rattle.ranges.specs.Starts.{start_of};
+ghost use Rattle.ranges.specs.Texts.{range_text};
+ghost use Rattle.ranges.specs.Below.{mark_below, point_below};
 
-use labels::{Both, CodePoints, Cuts, StyleMarks, Sum};
+mod walk;
+
+use labels::{Both, CodePoints, Cuts, LabelAlgebra, StyleMarks, Sum};
+use std::fmt;
+pub use walk::{Ranged, Runs};
 
 // The code points are the numbers below this one.
 const POINTS: u32 = 1_114_112;
@@ -25,43 +30,54 @@ pub struct Range {
     pub last: u32,
 }
 
+// One number, or the first and the last with a dash between.
+impl fmt::Display for Range {
+    ghost output = { λ range. Some (range_text range.first range.last) };
+
+    fn fmt<W: fmt::Write>(&self, f: &mut fmt::Formatter<W>) -> fmt::Result {
+        if self.first == self.last {
+            write!(f, "{}", self.first)
+        } else {
+            write!(f, "{}-{}", self.first, self.last)
+        }
+    }
+}
+
 // The next longest run of style marks from `from` on of which `p` holds.
 pub fn next_marks(p: u64, from: u32) -> Option<Range>
     ensures { MatchOption result ((k : ℕ) → from ≤ k → bit p k ≡ false) (λ range. Run (bit p) from range.first range.last) }
 {
     let first = next_set(p, from)?;
-    match next_set(!p, first) {
-        Some(end) => Some(Range {
-            first,
-            last: end - 1,
-        }),
-        None => Some(Range { first, last: 63 }),
-    }
+    // Where no later bit is clear, the run ends with the word.
+    let end = next_set(!p, first).unwrap_or(64);
+    Some(Range {
+        first,
+        last: end - 1,
+    })
 }
 
 // The lowest bit at or above `from` that is set, if any is.
+#[tactic(auto, using(bits::proofs::Words::bit_none))]
 fn next_set(word: u64, from: u32) -> Option<u32>
     ensures { MatchOption result ((k : ℕ) → from ≤ k → bit word k ≡ false) (λ n. Next (bit word) from n) }
 {
+    // Tested here, since a word can be shifted by less than 64 alone.
     if from >= 64 {
         return None;
     }
-    match bits::lowest(word >> from) {
-        Some(n) => Some(from + n),
-        None => None,
-    }
+    let n = bits::lowest(word >> from)?;
+    Some(from + n)
 }
 
 // The next longest run of code points from `from` on of which `p` holds; neighbouring segments are one range.
 pub fn next_points(a: &CodePoints, p: u64, from: u32) -> Option<Range>
-    ensures { MatchOption result ((k : ℕ) → from ≤ k → holds_point a.now p k ≡ false) (λ range. Run (holds_point a.now p) from range.first range.last) }
+    ensures { MatchOption result ((k : ℕ) → from ≤ k → ⟦<CodePoints as LabelAlgebra>⟧.holds a.now p k ≡ false) (λ range. Run (⟦<CodePoints as LabelAlgebra>⟧.holds a.now p) from range.first range.last) }
 {
     if from >= POINTS {
         return None;
     }
-    // A run of segments is a run of bits; the bits past the last segment mean nothing.
-    let real = bits::low_bits(p, a.cuts.len());
-    let segments = next_marks(real, a.cuts.segment(from) as u32)?;
+    // A run of segments is a run of bits.
+    let segments = next_marks(a.real_bits(p), a.cuts.segment(from) as u32)?;
     let first = start(&a.cuts, segments.first as usize);
     let end = start(&a.cuts, segments.last as usize + 1);
     Some(Range {
@@ -74,13 +90,31 @@ pub fn next_points(a: &CodePoints, p: u64, from: u32) -> Option<Range>
 fn start(cuts: &Cuts, s: usize) -> u32
     ensures { result ≡ start_of (cuts_of cuts.now) s }
 {
-    match cuts.first_in(s) {
-        Some(c) => c,
-        None => POINTS,
+    cuts.first_in(s).unwrap_or(POINTS)
+}
+
+impl Ranged for StyleMarks {
+    ghost at = { ⟦<StyleMarks as LabelAlgebra>⟧.holds };
+
+    ghost below = { λ a p k t. mark_below p k t };
+
+    fn next_run(&self, p: u64, from: u32) -> Option<Range> {
+        next_marks(p, from)
     }
 }
 
-// How many style marks `p` holds of.
+impl Ranged for CodePoints {
+    ghost at = { ⟦<CodePoints as LabelAlgebra>⟧.holds };
+
+    ghost below = { point_below };
+
+    fn next_run(&self, p: u64, from: u32) -> Option<Range> {
+        next_points(self, p, from)
+    }
+}
+
+// How many style marks `p` holds of: one instruction, where `count_points` walks over the runs.
+#[tactic(auto, using(crate::proofs::Bits::counted_bits))]
 pub fn count_marks(p: u64) -> u32
     ensures { result ≡ counted (bit p) 64 }
 {
@@ -89,20 +123,20 @@ pub fn count_marks(p: u64) -> u32
 
 // How many code points `p` holds of.
 pub fn count_points(a: &CodePoints, p: u64) -> u32
-    ensures { result ≡ counted (holds_point a.now p) 1114112 }
+    ensures { result ≡ counted (⟦<CodePoints as LabelAlgebra>⟧.holds a.now p) 1114112 }
 {
     let mut total = 0;
-    let mut from = 0;
-    while let Some(range) = next_points(a, p, from) {
+    // No `sum`: `Runs` says of each range that it is the next one, and of no list that it has them all.
+    for range in Runs::new(a, p) {
         total += range.last - range.first + 1;
-        from = range.last + 1;
     }
     total
 }
 
 // How many symbols of the sum of style marks and code points `p` holds of.
+#[tactic(auto, using(crate::proofs::Counts::counted_le))]
 pub fn count(a: &Sum<StyleMarks, CodePoints>, p: Both<u64, u64>) -> u32
-    ensures { result ≡ counted (λ s. holds_symbol a.now p (Left s)) 64 + counted (λ c. holds_symbol a.now p (Right c)) 1114112 }
+    ensures { let holds = ⟦<Sum<StyleMarks, CodePoints> as LabelAlgebra>⟧.holds a.now p in result ≡ counted (λ s. holds (Left s)) 64 + counted (λ c. holds (Right c)) 1114112 }
 {
     count_marks(p.left) + count_points(&a.right, p.right)
 }
@@ -110,11 +144,11 @@ pub fn count(a: &Sum<StyleMarks, CodePoints>, p: Both<u64, u64>) -> u32
 #[cfg(test)]
 mod tests {
     use super::*;
+    use labels::BadCut;
 
     #[test]
-    fn the_surrogates_are_one_range_of_2048(rt: HostRuntime) {
-        let mut cuts = Cuts::none();
-        assert!(rt; cuts.push(55_296) && cuts.push(57_344));
+    fn the_surrogates_are_one_range_of_2048(rt: HostRuntime) -> Result<(), BadCut> {
+        let cuts = Cuts::try_from([55_296, 57_344].as_slice())?;
         let a = CodePoints { cuts };
         // Bit 3 means nothing: there are three segments.
         assert_eq!(rt;
@@ -134,6 +168,7 @@ mod tests {
             }),
             "two segments, one range"
         );
+        Ok(())
     }
 
     #[test]
@@ -155,7 +190,7 @@ mod tests {
     fn with_63_cuts_each_bit_is_a_segment(rt: HostRuntime) {
         let mut cuts = Cuts::none();
         for i in 1..64 {
-            assert!(rt; cuts.push(1000 * i));
+            assert!(rt; cuts.push(1000 * i).is_ok());
         }
         let a = CodePoints { cuts };
         assert_eq!(rt;

@@ -1,78 +1,140 @@
 -- Chains of places, made place by place, and walks along them. Assumes nothing.
-use Rattle.std.proofs.Common.{◌≡◌, ℕ, ◌+◌, ◌-◌, ◌<◌, ◌≤◌, List, map, length, get_or, set, sym, ap, ◌∙◌, subst, inl, inr, arith, get_or-set_other, get_or-set_same}
+use Rattle.std.proofs.Common.{◌≡◌, ℕ, zero, suc, ◌+◌, ◌<◌, ◌≤◌, Bool, true, false, T, eqb, List, Option, Some, None, map, length, get_or, set, sym, refl, ap, ◌∙◌, subst, inl, inr, add-one, arith, get_or-set_other, get_or-set_same, eqb→eq}
 use Rattle.std.specs.List.{HoldsAt, AllByRecursion}
 use Rattle.std.proofs.lemmas.List.{get_or-map}
 use Rattle.std.proofs.ByRecursion.{all_from_every}
-use Rattle.std.proofs.lemmas.Bool.{cases_eq, cases_lt}
-use Rattle.reduction.specs.Chains.{Prior, Chained}
+use Rattle.std.proofs.lemmas.Bool.{cases_Bool, cases_eq, cases_lt, eq-eqb, ne_eqb, both_ways}
+use Rattle.reduction.specs.Chains.{last_below, Heads, Links}
 
-prior_more : (keys : List ℕ) (r k c : ℕ) → (get_or keys k 0 ≡ r → ⊥) → Prior keys r k c → Prior keys r (k + 1) c
-prior_more keys r k c away w = record {
-  within = omega (arith, w.within);
-  here = w.here;
-  none = λ j lo hi e. elim (cases_eq j k) [ inl same ↦ away (ap (λ y. get_or keys y 0) (sym same) ∙ e) | inr ne ↦ w.none j lo (omega arith) e ];
-}
+module _ (f : ℕ → Bool) where
+  last_on : (n : ℕ) → f n ≡ true → last_below (n + 1) f ≡ Some n
+  unfolding last_below
+  last_on n on = rw (add-one, on) refl
 
-prior_last : (keys : List ℕ) (p k : ℕ) → get_or keys k 0 ≡ p → Prior keys p (k + 1) (k + 1)
-prior_last keys p k e = record {
-  within = omega arith;
-  here = λ _. let s : k + 1 - 1 ≡ k = omega arith in ap (λ y. get_or keys y 0) s ∙ e;
-  none = λ j lo hi _. omega arith;
-}
+  last_off : (n : ℕ) → f n ≡ false → last_below (n + 1) f ≡ last_below n f
+  unfolding last_below
+  last_off n off = rw (add-one, off) refl
 
-pub chained_none : (keys first next : List ℕ) → ((p : ℕ) → p < 256 → get_or first p 0 ≡ 0) → Chained keys 0 first next
-chained_none keys first next zero = record {
-  head = λ p h. subst (Prior keys p 0) (sym (zero p h)) (record { within = omega arith; here = λ l. absurd (omega arith); none = λ j lo hi _. omega arith });
-  link = λ k h. absurd (omega arith);
-}
+  -- the last that passes is below n, and none after it passes
+  pub record Last (n k : ℕ) : Type 0 where
+    pub within : k < n
+    pub here : f k ≡ true
+    pub after : (j : ℕ) → k < j → j < n → f j ≡ false
 
-pub chained_more : (keys first next : List ℕ) (k p : ℕ) → length first ≡ 256 → k < length next → p < 256 → get_or keys k 0 ≡ p
-    → Chained keys k first next → Chained keys (k + 1) (set first p (k + 1)) (set next k (get_or first p 0))
-chained_more keys first next k p lf ln hp e w =
-    let at : p < length first = omega arith in
-    record {
-      head = λ r hr. elim (cases_eq r p) [
-        | inl same ↦ subst (λ y. Prior keys y (k + 1) (get_or (set first p (k + 1)) y 0)) (sym same) (subst (Prior keys p (k + 1)) (sym (get_or-set_same first p (k + 1) 0 at)) (prior_last keys p k e))
-        | inr ne ↦ subst (Prior keys r (k + 1)) (sym (get_or-set_other first p r (k + 1) 0 ne)) (prior_more keys r k (get_or first r 0) (λ s. ne (sym s ∙ e)) (w.head r hr))
-      ];
-      link = λ j hj. elim (cases_eq j k) [
-        | inl same ↦ subst (λ y. Prior keys (get_or keys y 0) y (get_or (set next k (get_or first p 0)) y 0)) (sym same)
-            (subst (λ y. Prior keys y k (get_or (set next k (get_or first p 0)) k 0)) (sym e) (subst (Prior keys p k) (sym (get_or-set_same next k (get_or first p 0) 0 ln)) (w.head p hp)))
-        | inr ne ↦ subst (Prior keys (get_or keys j 0) j) (sym (get_or-set_other next k j (get_or first p 0) 0 ne)) (w.link j (omega arith))
-      ];
+  last_some : (n k : ℕ) → last_below n f ≡ Some k → Last n k
+  unfolding last_below
+  last_some zero k e = cc
+  last_some (suc n) k e = elim (cases_Bool (f n)) [
+    | inl on ↦ let same : n ≡ k = (let e' : Some n ≡ Some k = sym (last_on' on) ∙ e in cc) in record {
+      within = omega (arith, same);
+      here = ap f (sym same) ∙ on;
+      after = λ j lo hi. absurd (omega (arith, same));
     }
+    | inr off ↦ let r = last_some n k (sym (last_off' off) ∙ e) in record {
+      within = omega (arith, r.within);
+      here = r.here;
+      after = λ j lo hi. elim (cases_eq j n) [ inl same ↦ ap f same ∙ off | inr ne ↦ r.after j lo (omega arith) ];
+    }
+  ]
+    where
+      last_on' : f n ≡ true → last_below (suc n) f ≡ Some n
+      last_on' on = rw on refl
 
--- a walk along the places of the key p: what is said at each from `at` on is done
-pub record Walk (keys : List ℕ) (m p : ℕ) (Q : ℕ → Type 0) (at : ℕ) : Type 0 where
-  pub within : at ≤ m
-  pub here : 0 < at → get_or keys (at - 1) 0 ≡ p
-  pub done : (j : ℕ) → at ≤ j → j < m → get_or keys j 0 ≡ p → Q j
+      last_off' : f n ≡ false → last_below (suc n) f ≡ last_below n f
+      last_off' off = rw off refl
 
-module _ (keys : List ℕ) (m p : ℕ) (first next : List ℕ) (w : Chained keys m first next) where
-  pub walk_none : (Q : ℕ → Type 0) → p < 256 → Walk keys m p Q (get_or first p 0)
-  walk_none Q hp = let b = w.head p hp in record { within = b.within; here = b.here; done = λ j lo hi e. absurd (b.none j lo hi e) }
+  last_none : (n : ℕ) → last_below n f ≡ None → (j : ℕ) → j < n → f j ≡ false
+  unfolding last_below
+  last_none zero e j lt = absurd (omega arith)
+  last_none (suc n) e j lt = elim (cases_Bool (f n)) [
+    | inl on ↦ let e' : Some n ≡ None = sym (last_on' on) ∙ e in cc
+    | inr off ↦ elim (cases_eq j n) [ inl same ↦ ap f same ∙ off | inr ne ↦ last_none n (sym (last_off' off) ∙ e) j (omega arith) ]
+  ]
+    where
+      last_on' : f n ≡ true → last_below (suc n) f ≡ Some n
+      last_on' on = rw on refl
 
-  -- Q may have become Q'
-  pub walk_more : (Q Q' : ℕ → Type 0) (at : ℕ) → (at ≡ 0 → ⊥) → Q' (at - 1) → ((j : ℕ) → Q j → Q' j) → Walk keys m p Q at → Walk keys m p Q' (get_or next (at - 1) 0)
-  walk_more Q Q' at pos now' weaker k =
-      let key : get_or keys (at - 1) 0 ≡ p = k.here (omega arith) in
-      let b = w.link (at - 1) (omega (arith, k.within)) in
-      record {
-        within = omega (arith, b.within, k.within);
-        here = λ z. b.here z ∙ key;
-        done = λ j lo hi e. elim (cases_eq j (at - 1)) [
-          | inl same ↦ subst Q' (sym same) now'
-          | inr ne ↦ elim (cases_lt j at) [
-            | inl lt ↦ absurd (b.none j lo (omega arith) (e ∙ sym key))
-            | inr ge ↦ weaker j (k.done j ge hi e)
-          ]
-        ];
-      }
+      last_off' : f n ≡ false → last_below (suc n) f ≡ last_below n f
+      last_off' off = rw off refl
+
+-- how many places are left of a walk, at most
+abbrev pub left : Option ℕ → ℕ
+left None = 0
+left (Some k) = k + 1
+
+left_last : (f : ℕ → Bool) (n : ℕ) → left (last_below n f) ≤ n
+unfolding last_below
+left_last f zero = omega arith
+left_last f (suc n) = elim (cases_Bool (f n)) [
+  | inl on ↦ rw on (omega arith)
+  | inr off ↦ rw off (let h : left (last_below n f) ≤ n = left_last f n in omega arith)
+]
+
+pub heads_none : (keys : List ℕ) (last : List (Option ℕ)) → ((p : ℕ) → p < 256 → get_or last p None ≡ None) → Heads keys 0 last
+unfolding last_below
+heads_none keys last none p h = none p h
+
+pub links_none : (keys : List ℕ) (before : List (Option ℕ)) → Links keys 0 before
+links_none keys before k h = absurd (omega arith)
+
+pub heads_more : (keys : List ℕ) (last : List (Option ℕ)) (k p : ℕ) → p < length last → get_or keys k 0 ≡ p → Heads keys k last → Heads keys (k + 1) (set last p (Some k))
+heads_more keys last k p at e w r hr = elim (cases_eq r p) [
+  | inl same ↦ rw (same, get_or-set_same last p (Some k) None at) (sym (last_on _ k (eq-eqb (get_or keys k 0) p e)))
+  | inr ne ↦ get_or-set_other last p r (Some k) None ne ∙ w r hr ∙ sym (last_off _ k (ne_eqb (get_or keys k 0) r (λ s. ne (sym s ∙ e))))
+]
+
+pub links_more : (keys : List ℕ) (last before : List (Option ℕ)) (k p : ℕ) → k < length before → p < 256 → get_or keys k 0 ≡ p → Heads keys k last → Links keys k before → Links keys (k + 1) (set before k (get_or last p None))
+links_more keys last before k p ln hp e heads w j hj = elim (cases_eq j k) [
+  | inl same ↦ rw (same, get_or-set_same before k (get_or last p None) None ln, e) (heads p hp)
+  | inr ne ↦ get_or-set_other before k j (get_or last p None) None ne ∙ w j (omega arith)
+]
+
+-- a walk along the places of the key p, of which those from `from` on are done: `at` is the next
+pub record Walk (keys : List ℕ) (m p : ℕ) (Q : ℕ → Type 0) (at : Option ℕ) : Type 0 where
+  pub from : ℕ
+  pub within : from ≤ m
+  pub next : at ≡ last_below from (λ k. eqb (get_or keys k 0) p)
+  pub done : (j : ℕ) → from ≤ j → j < m → get_or keys j 0 ≡ p → Q j
+
+module _ (keys : List ℕ) (m p : ℕ) where
+  pub walk_none : (last : List (Option ℕ)) → Heads keys m last → (Q : ℕ → Type 0) → p < 256 → Walk keys m p Q (get_or last p None)
+  walk_none last w Q hp = record { from = m; within = omega arith; next = w p hp; done = λ j lo hi e. absurd (omega arith) }
+
+  -- where the walk is
+  pub walk_here : (Q : ℕ → Type 0) (at : Option ℕ) (k : ℕ) → at ≡ Some k → Walk keys m p Q at → (k < m) × (get_or keys k 0 ≡ p)
+  walk_here Q at k e w = let l = last_some _ w.from k (sym w.next ∙ e) in (omega (arith, l.within, w.within), eqb→eq (get_or keys k 0) p (subst T (sym l.here) tt))
+
+  module _ (before : List (Option ℕ)) (links : Links keys m before) where
+    pub walk_less : (Q : ℕ → Type 0) (at : Option ℕ) (k : ℕ) → at ≡ Some k → Walk keys m p Q at → left (get_or before k None) < left at
+    walk_less Q at k e w = rw (e, links k (walk_here Q at k e w).0) (omega (arith, left_last (λ j. eqb (get_or keys j 0) (get_or keys k 0)) k))
+
+    -- Q may have become Q'
+    pub walk_more : (Q Q' : ℕ → Type 0) (at : Option ℕ) (k : ℕ) → at ≡ Some k → Q' k → ((j : ℕ) → Q j → Q' j) → Walk keys m p Q at → Walk keys m p Q' (get_or before k None)
+    walk_more Q Q' at k e now' weaker w =
+        let l = last_some _ w.from k (sym w.next ∙ e) in
+        let here = walk_here Q at k e w in
+        record {
+          from = k;
+          within = omega (arith, here.0);
+          next = links k here.0 ∙ ap (λ y. last_below k (λ j. eqb (get_or keys j 0) y)) here.1;
+          done = λ j lo hi s. elim (cases_eq j k) [
+            | inl same ↦ subst Q' (sym same) now'
+            | inr ne ↦ elim (cases_lt j w.from) [
+              | inl lt ↦ absurd (both_ways _ (l.after j (omega arith) lt) (eq-eqb (get_or keys j 0) p s))
+              | inr ge ↦ weaker j (w.done j ge hi s)
+            ]
+          ];
+        }
 
 -- the walk is at its end
-pub walk_all : {X : Type 0} (f : X → ℕ) (xs : List X) (p : ℕ) (G : X → Type 0) (at : ℕ) → at ≡ 0 → Walk (map f xs) (length xs) p (HoldsAt G xs) at → AllByRecursion (λ a. f a ≡ p → G a) xs
+pub walk_all : {X : Type 0} (f : X → ℕ) (xs : List X) (p : ℕ) (G : X → Type 0) (at : Option ℕ) → at ≡ None → Walk (map f xs) (length xs) p (HoldsAt G xs) at → AllByRecursion (λ a. f a ≡ p → G a) xs
 walk_all f xs p G at z w = all_from_every (λ a. f a ≡ p → G a) xs
-    (λ k d lo lt e. w.done k (omega arith) lt (get_or-map f xs k d 0 lt ∙ e) d)
+    (λ k d _ lt e.
+    let key : get_or (map f xs) k 0 ≡ p = get_or-map f xs k d 0 lt ∙ e in
+    elim (cases_lt k w.from) [
+      | inl below ↦ absurd (both_ways _ (last_none _ w.from (sym w.next ∙ z) k below) (eq-eqb (get_or (map f xs) k 0) p key))
+      | inr ge ↦ w.done k ge lt key d
+    ])
 
 -- the key of an element that was read
 pub key_read : {X : Type 0} (f : X → ℕ) (xs : List X) (k : ℕ) (x : X) → k < length xs → x ≡ get_or xs k x → get_or (map f xs) k 0 ≡ f x

@@ -1,4 +1,4 @@
-pub mod Blank
+pub mod Made
 pub mod Naming
 pub mod Chains
 pub mod Gathering

@@ -1,9 +1,9 @@
 -- Lists of classes and of arrows, one more at a time. Assumes nothing.
-use Rattle.std.proofs.Common.{◌≡◌, ℕ, zero, suc, ◌+◌, ◌-◌, ◌<◌, ◌≤◌, Bool, true, false, cond, T, List, [], ◌∷◌, ◌++◌, map, length, take, set, sym, refl, ap, ◌∙◌, subst, inl, inr, add-one, arith}
-use native.Mathlib.Nat.{sub-zero}
+use Rattle.std.proofs.Common.{◌≡◌, ℕ, zero, suc, ◌+◌, ◌<◌, ◌≤◌, Bool, true, false, cond, T, List, [], ◌∷◌, ◌++◌, filter, map, length, get_or, take, set, sym, refl, ap, ◌∙◌, subst, inl, inr, add-one, arith}
 use Rattle.std.specs.List.{AllByRecursion}
 use Rattle.std.proofs.ByRecursion.{All-push, All-weaker}
-use Rattle.std.proofs.lemmas.List.{append-nil, append_assoc, length-append, length-map, length_push, length-take-le, map_push, take_more_set}
+use Rattle.std.proofs.lemmas.List.{append-nil, append_assoc, length-append, length-map, length_push, map_push, take_all, take_more_set}
+use Rattle.std.proofs.lemmas.List.Filters.{length-filter_more}
 use Rattle.std.proofs.lemmas.Bool.{cases_eq}
 use Rattle.automata.specs.declared.Arrow.{Arrow}
 use Rattle.automata.specs.Below.{rising, beside, rows}
@@ -45,16 +45,26 @@ module _ (f : ℕ → Bool) where
   rising_room : (m n : ℕ) → f m ≡ true → m < n → length (rising f m) < length (rising f n)
   rising_room m n on h = omega (arith, rising_le (m + 1) n (omega arith), ap length (rising_on m on), length_push (rising f m) m)
 
--- the part of a list that holds what passes, as a slice from 0 on
-module _ (f : ℕ → Bool) (n k : ℕ) (xs : List ℕ) (listed : take k xs ≡ rising f n) where
-  pub part_is : take (k - 0) xs ≡ rising f n
-  part_is = ap (λ (m : ℕ). take m xs) (sub-zero k) ∙ listed
+-- the first elements that pass, counted by place
+counted_first : (p : ℕ → Bool) (xs : List ℕ) (i : ℕ) → i ≤ length xs → length (filter p (take i xs)) ≡ length (rising (λ j. p (get_or xs j 0)) i)
+unfolding rising
+counted_first p xs zero h = refl
+counted_first p xs (suc i) h =
+    let lt : i < length xs = omega arith in
+    let e : suc i ≡ i + 1 = sym (add-one i) in
+    ap (λ n. length (filter p (take n xs))) e ∙ length-filter_more p xs i 0 lt
+    ∙ ap (λ n. n + cond (p (get_or xs i 0)) 1 0) (counted_first p xs i (omega arith))
+    ∙ sym (length-append (rising (λ j. p (get_or xs j 0)) i) _ ∙ ap (λ n. length (rising (λ j. p (get_or xs j 0)) i) + n) (one (p (get_or xs i 0))))
+  where
+    one : (b : Bool) → length (cond b (i ∷ []) []) ≡ cond b 1 0
+    one true = refl
+    one false = refl
 
-  pub part_low : (m : ℕ) → n ≤ m → AllByRecursion (λ c. c < m) (take (k - 0) xs)
-  part_low m h = subst (AllByRecursion (λ c. c < m)) (sym part_is) (All-weaker (λ c. (c < n) × T (f c)) (λ c. c < m) (λ c p. omega (arith, p.0)) (rising f n) (rising_all f n))
+pub counted_all : (p : ℕ → Bool) (xs : List ℕ) → length (filter p xs) ≡ length (rising (λ j. p (get_or xs j 0)) (length xs))
+counted_all p xs = ap (λ l. length (filter p l)) (sym (take_all (length xs) xs (omega arith))) ∙ counted_first p xs (length xs) (omega arith)
 
-  pub part_length : (m : ℕ) → k ≤ n → n ≤ m → length xs ≡ m → length (take (k - 0) xs) ≡ k
-  part_length m few h size = ap (λ (m : ℕ). length (take m xs)) (sub-zero k) ∙ length-take-le k xs (omega arith)
+pub rising_low : (f : ℕ → Bool) (n : ℕ) (xs : List ℕ) → xs ≡ rising f n → AllByRecursion (λ c. c < n) xs
+rising_low f n xs is = subst (AllByRecursion (λ c. c < n)) (sym is) (All-weaker (λ c. (c < n) × T (f c)) (λ c. c < n) (λ c p. p.0) (rising f n) (rising_all f n))
 
 -- tests that agree below n list the same
 module _ (R : ℕ → ℕ → Bool) (n : ℕ) where

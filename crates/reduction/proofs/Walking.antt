@@ -1,5 +1,5 @@
 -- The classes that can be reached, visited one by one. Assumes nothing.
-use Rattle.std.proofs.Common.{◌≡◌, ℕ, ◌<◌, Bool, true, false, not, ◌||◌, T, List, length, get_or, set, Decides, sym, ◌∙◌, subst, inl, inr, T_not, get_or-set_other, get_or-set_same}
+use Rattle.std.proofs.Common.{◌≡◌, ℕ, ◌<◌, ◌≤◌, Option, Some, None, MatchOption, zero-le, Bool, true, false, not, ◌&&◌, ◌||◌, T, List, length, get_or, set, Decides, sym, refl, ◌∙◌, subst, inl, inr, T_not, get_or-set_other, get_or-set_same}
 use Rattle.std.proofs.lemmas.Bool.{cases_eq, or_cases, or_left, or_right, both_ways}
 use Rattle.automata.specs.Below.{count}
 use Rattle.automata.specs.Automata.{Automaton, Linked, Told, Reachable, start, step}
@@ -60,6 +60,27 @@ module _ {V : Type 0} (M : Automaton V) where
       so = λ p q r h t. (w.told p q (reachable_here r) h (all_done p (reachable_here r) (arrives r))).0.0 (from_T _ t);
       if = λ p q r h l. to_T ((w.told p q (reachable_here r) h (all_done p (reachable_here r) (arrives r))).0.1 l);
     }
+
+-- what a search for one that is reached and not done finds
+pub first_waiting : (reached done : ℕ → Bool) (n : ℕ) (o : Option ℕ)
+    → MatchOption o ((k : ℕ) → 0 ≤ k → k < n → (reached k && not (done k)) ≡ false) (λ c. (0 ≤ c) × (c < n) × ((reached c && not (done c)) ≡ true) × ((k : ℕ) → 0 ≤ k → k < c → (reached k && not (done k)) ≡ false))
+    → MatchOption o ((c : ℕ) → c < n → reached c ≡ true → done c ≡ true) (λ c. (c < n) × (reached c ≡ true) × (done c ≡ false))
+first_waiting reached done n None none = λ c h on. over (reached c) (done c) (none c zero-le h) on
+  where
+    over : (a b : Bool) → (a && not b) ≡ false → a ≡ true → b ≡ true
+    over true true e on = refl
+    over true false e on = sym e
+    over false b e on = absurd (both_ways false refl on)
+first_waiting reached done n (Some c) is = (is.1, left' (reached c) (done c) is.2, right' (reached c) (done c) is.2)
+  where
+    left' : (a b : Bool) → (a && not b) ≡ true → a ≡ true
+    left' true b e = refl
+    left' false b e = absurd (both_ways false refl e)
+
+    right' : (a b : Bool) → (a && not b) ≡ true → b ≡ false
+    right' true true e = absurd (both_ways false refl e)
+    right' true false e = refl
+    right' false b e = absurd (both_ways false refl e)
 
 -- one more is done
 pub fewer_left : (done : List Bool) (n c : ℕ) → c < n → c < length done → get_or done c false ≡ false

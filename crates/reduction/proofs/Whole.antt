@@ -1,5 +1,5 @@
 -- What was worked out and written is the reduction. Assumes nothing.
-use Rattle.std.proofs.Common.{◌≡◌, ℕ, ◌<◌, ◌≤◌, min, Bool, false, ◌&&◌, ◌||◌, eqb, ltb, List, [], ◌∷◌, map, length, get_or, take, Decides, sym, refl, ap, ◌∙◌, subst, inl, inr, arith}
+use Rattle.std.proofs.Common.{◌≡◌, ℕ, ◌<◌, ◌≤◌, min, Bool, ◌&&◌, ◌||◌, eqb, ltb, List, [], ◌∷◌, map, length, get_or, take, Decides, sym, refl, ap, ap₂, ◌∙◌, subst, inl, inr, arith}
 use Rattle.std.specs.List.{AllByRecursion}
 use Rattle.std.proofs.ByRecursion.{All-map, All-weaker}
 use Rattle.std.proofs.lemmas.List.{length-take-le}
@@ -7,7 +7,8 @@ use Rattle.std.proofs.lemmas.Bool.{cases_eq, cases_order, eq-eqb, ne_eqb, lt-ltb
 use Rattle.automata.specs.declared.Arrow.{Arrow}
 use Rattle.automata.specs.declared.Mark.{Mark}
 use Rattle.automata.specs.Below.{rising, table}
-use Rattle.automata.specs.Automata.{Automaton, automaton, Reachable, mark}
+use Rattle.automata.specs.declared.Mark.TheVariants.{Neither}
+use Rattle.automata.specs.Automata.{Automaton, automaton, Reachable, mark, mark_is_start, mark_accepts}
 use Rattle.automata.specs.Simulation.{Greatest}
 use Rattle.automata.specs.Minimal.{Minimal}
 use Rattle.automata.specs.Reduction.{Pruned, Tells, below, reached, staying, class, Reduction, reduced_marks, reduced_ends, reduced_kept}
@@ -20,12 +21,12 @@ use Rattle.automata.proofs.Book.{books}
 use Rattle.bits.specs.Matrix.{pair}
 use Rattle.reduction.specs.Drawn.{linked_at, reads_at, Drawn}
 use Rattle.reduction.specs.Filled.{Filled}
-use Rattle.reduction.proofs.Naming.{to_T, from_T, map_agree}
+use Rattle.reduction.proofs.Naming.{to_T, from_T, map_agree, mark_of_both}
 use Rattle.automata.proofs.Book.{rising_same}
 
-pub marks_agree : {V : Type 0} (M : Automaton V) (K : ℕ → ℕ → Bool) (initial accepting : List Bool) (classes : List ℕ) → ((c : ℕ) → c < M.size → get_or initial c false ≡ (Pruned M K).initial c) → ((c : ℕ) → c < M.size → get_or accepting c false ≡ (Pruned M K).accepting c) → AllByRecursion (λ c. c < M.size) classes
-    → map (λ c. mark (get_or initial c false) (get_or accepting c false)) classes ≡ map (λ c. mark ((Pruned M K).initial c) ((Pruned M K).accepting c)) classes
-marks_agree M K initial accepting classes x y low = map_agree _ _ classes (All-weaker (λ c. c < M.size) _ (λ c h. rw (x c h, y c h)) classes low)
+pub marks_agree : {V : Type 0} (M : Automaton V) (K : ℕ → ℕ → Bool) (marks : List Mark) (classes : List ℕ) → ((c : ℕ) → c < M.size → mark_is_start (get_or marks c Neither) ≡ (Pruned M K).initial c) → ((c : ℕ) → c < M.size → mark_accepts (get_or marks c Neither) ≡ (Pruned M K).accepting c) → AllByRecursion (λ c. c < M.size) classes
+    → map (λ c. get_or marks c Neither) classes ≡ map (λ c. mark ((Pruned M K).initial c) ((Pruned M K).accepting c)) classes
+marks_agree M K marks classes x y low = map_agree _ _ classes (All-weaker (λ c. c < M.size) _ (λ c h. mark_of_both (get_or marks c Neither) ∙ ap₂ mark (x c h) (y c h)) classes low)
 
 module _ {V : Type 0} (M : Automaton V) (K linked : ℕ → ℕ → Bool) (told : Tells M K linked) where
   -- the classes found to be reached are those that stay
@@ -103,8 +104,8 @@ module _ {P V : Type 0} (h : P → V → Bool) (M : Automaton V) (K linked : ℕ
         arrows_fit = room;
       }
 
-  -- so it is least, where K is the greatest simulation
-  pub filled_least : Greatest M K → Filled h M K states number marks arrows rows → Minimal M (automaton h (take states marks) (take number arrows)) (pair rows) number
-  filled_least greatest f =
-      let n : length (take number arrows) ≡ number = length-take-le number arrows (omega (arith, f.arrows_fit)) in
-      subst (Minimal M (automaton h (take states marks) (take number arrows)) (pair rows)) n ((books P V).minimal h M K (take states marks) (take number arrows) (pair rows) greatest f.book)
+-- so it is least, where K is the greatest simulation
+pub filled_least : {P V : Type 0} (h : P → V → Bool) (M : Automaton V) (K : ℕ → ℕ → Bool) (states number : ℕ) (marks : List Mark) (arrows : List (Arrow P)) (rows : List ℕ) → Greatest M K → Filled h M K states number marks arrows rows → Minimal M (automaton h (take states marks) (take number arrows)) (pair rows) number
+filled_least {P} {V} h M K states number marks arrows rows greatest f =
+    let n : length (take number arrows) ≡ number = length-take-le number arrows (omega (arith, f.arrows_fit)) in
+    subst (Minimal M (automaton h (take states marks) (take number arrows)) (pair rows)) n ((books P V).minimal h M K (take states marks) (take number arrows) (pair rows) greatest f.book)

@@ -1,13 +1,15 @@
 -- The places of a list of keys, chained by key. Assumes nothing.
-use Rattle.std.specs.Prelude.{◌≡◌, ℕ, ◌-◌, ◌<◌, ◌≤◌, List, ◌≢◌, slice_index}
+use Rattle.std.specs.Prelude.{◌≡◌, ℕ, zero, suc, ◌<◌, Bool, cond, List, Option, Some, None, ◌==◌, slice_index, slice_index_or}
 
--- c is 1 more than the last place below k that has the key p, or 0 if there is none
-pub record Prior (keys : List ℕ) (p k c : ℕ) : Type 0 where
-  pub within : c ≤ k
-  pub here : 0 < c → slice_index keys (c - 1) ≡ p
-  pub none : (j : ℕ) → c ≤ j → j < k → slice_index keys j ≢ p
+-- the greatest number below n that passes, if any does
+unfoldable pub last_below : ℕ → (ℕ → Bool) → Option ℕ
+last_below zero f = None
+last_below (suc n) f = cond (f n) (Some n) (last_below n f)
 
--- the first m places: `first` leads from a key below 256 to its last place, and `next` from a place to the one before it of the same key
-pub record Chained (keys : List ℕ) (m : ℕ) (first next : List ℕ) : Type 0 where
-  pub head : (p : ℕ) → p < 256 → Prior keys p m (slice_index first p)
-  pub link : (k : ℕ) → k < m → Prior keys (slice_index keys k) k (slice_index next k)
+-- of the first m places: `last` leads from a key below 256 to its last place, and `before` from a place to the one before it
+-- of the same key
+abbrev pub Heads : List ℕ → ℕ → List (Option ℕ) → Type 0
+Heads keys m last = (p : ℕ) → p < 256 → slice_index_or last p None ≡ last_below m (λ k. slice_index keys k == p)
+
+abbrev pub Links : List ℕ → ℕ → List (Option ℕ) → Type 0
+Links keys m before = (k : ℕ) → k < m → slice_index_or before k None ≡ last_below k (λ j. slice_index keys j == slice_index keys k)

@@ -1,5 +1,5 @@
 -- What can be reduced, what the target then holds, and when it is refused. Assumes nothing.
-use Rattle.std.specs.Prelude.{◌≡◌, ℕ, ◌<◌, ◌≤◌, min, Bool, false, ◌⊎◌, List, length, take}
+use Rattle.std.specs.Prelude.{◌≡◌, ℕ, ◌<◌, ◌≤◌, min, Bool, false, ◌⊎◌, List, length, take, slice_index_or}
 use Rattle.std.specs.List.{AllByRecursion}
 use Rattle.automata.specs.declared.Arrow.{Arrow}
 use Rattle.automata.specs.declared.Mark.{Mark}
@@ -8,12 +8,15 @@ use Rattle.automata.specs.Reduction.{Tells, reduced_ends}
 use Rattle.automata.specs.Book.{ReducedBook}
 use Rattle.bits.specs.Matrix.{pair}
 
--- at most 256 states and 8,192 arrows between them, and a whole matrix of kept pairs
-pub record Bounded {P : Type 0} (marks : List Mark) (arrows : List (Arrow P)) (rows : List ℕ) : Type 0 where
+-- at most 256 states and 8,192 arrows between them
+pub record Bounded {P : Type 0} (marks : List Mark) (arrows : List (Arrow P)) : Type 0 where
   pub states : length marks ≤ 256
   pub few : length arrows ≤ 8192
   pub within : AllByRecursion (Within (length marks)) arrows
-  pub square : length rows ≡ 1024
+
+-- the same of the ends, arrow by arrow
+abbrev pub EndsBelow : {P : Type 0} → ℕ → List (Arrow P) → Type 0
+EndsBelow {P} n arrows = (k : ℕ) (d : Arrow P) → k < length arrows → Within n (slice_index_or arrows k d)
 
 -- the target's first marks and arrows and its kept pairs are the reduction of M by K, and no other pair is kept
 pub record Filled {P V : Type 0} (holds : P → V → Bool) (M : Automaton V) (K : ℕ → ℕ → Bool) (states number : ℕ) (marks : List Mark) (arrows : List (Arrow P)) (rows : List ℕ) : Type 0 where

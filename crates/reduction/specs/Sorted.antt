@@ -1,12 +1,11 @@
 -- What is worked out of a book before it is reduced: its classes, with their names, marks and arrows. Assumes nothing.
-use Rattle.std.specs.Prelude.{◌≡◌, ℕ, ◌<◌, Bool, false, List, map, length, slice_index, slice_index_or}
+use Rattle.std.specs.Prelude.{◌≡◌, ℕ, ◌<◌, Bool, List, map, slice_index}
+use Rattle.labels.specs.declared.LabelAlgebra.{Ghosts}
 use Rattle.automata.specs.declared.Arrow.{Arrow}
-use Rattle.automata.specs.declared.Mark.{Mark}
-use Rattle.automata.specs.Automata.{automaton}
+use Rattle.automata.specs.Automata.{Automaton, automaton}
 use Rattle.automata.specs.Reduction.{name, Pruned}
 use Rattle.bits.specs.Matrix.{pair}
-use Rattle.reduction.specs.declared.classes.Classes.{Classes}
-use Rattle.reduction.specs.Chains.{Chained}
+use Rattle.reduction.specs.declared.source.Source.{Source}
 
 -- the classes of the arrows' sources
 abbrev pub sources : {P : Type 0} → (ℕ → ℕ → Bool) → List (Arrow P) → List ℕ
@@ -16,8 +15,13 @@ sources K arrows = map (λ x. name K x.source) arrows
 abbrev pub Named : (ℕ → ℕ → Bool) → ℕ → List ℕ → Type 0
 Named K n names = (p : ℕ) → p < n → slice_index names p ≡ name K p
 
-pub record Sorted {P V : Type 0} (holds : P → V → Bool) (marks : List Mark) (arrows : List (Arrow P)) (rows : List ℕ) (s : Classes) : Type 0 where
-  pub named : Named (pair rows) (length marks) s.names
-  pub initial : (c : ℕ) → c < length marks → slice_index_or s.initial c false ≡ (Pruned (automaton holds marks arrows) (pair rows)).initial c
-  pub accepting : (c : ℕ) → c < length marks → slice_index_or s.accepting c false ≡ (Pruned (automaton holds marks arrows) (pair rows)).accepting c
-  pub chained : Chained (sources (pair rows) arrows) (length arrows) s.first s.next
+module _ {A V P : Type 0} {G : Ghosts A V P} where
+  -- the kept pairs of a book, its automaton, and what this is after merging and pruning
+  abbrev pub kept_of : Source A V P G → ℕ → ℕ → Bool
+  kept_of s = pair s.rows.now.words
+
+  abbrev pub book_of : Source A V P G → Automaton V
+  book_of s = automaton (G.holds s.labels.now) s.marks.now s.arrows.now
+
+  abbrev pub pruned_of : Source A V P G → Automaton V
+  pruned_of s = Pruned (book_of s) (kept_of s)

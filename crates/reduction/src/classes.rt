@@ -3,148 +3,153 @@
 // States that are kept both ways form a class, which goes by its least state. Names and marks cost a few steps for each
 // pair of states, the chains of arrows one step for each arrow.
 
-ghost use Rattle.std.specs.Prelude.{◌≡◌, ℕ, ◌<◌, ◌≤◌, Bool, false, map, length, get_or, slice_index, slice_index_or};
-ghost use Rattle.std.specs.List.{AllByRecursion};
-ghost use Rattle.automata.specs.Automata.{mark_is_start, mark_accepts};
+ghost use Rattle.std.specs.Prelude.{◌≡◌, ℕ, ◌<◌, Bool, ◌&&◌, map, length, MatchOption, slice_index, slice_index_or};
+ghost use Rattle.std.proofs.Props.{props};
 ghost use Rattle.automata.specs.declared.Mark.TheVariants.{Neither};
-ghost use Rattle.automata.specs.Reduction.{name, member, below, highest};
-ghost use Rattle.bits.specs.Matrix.{pair};
-ghost use Rattle.reduction.specs.Filled.{Bounded};
-ghost use Rattle.reduction.specs.Chains.{Chained};
-ghost use Rattle.reduction.specs.Sorted.{Named, Sorted};
+ghost use Rattle.automata.specs.Automata.{mark_is_start, mark_accepts};
+ghost use Rattle.automata.specs.Reduction.{name, same, member, below, highest};
+ghost use Rattle.reduction.specs.Chains.{Heads, Links};
+ghost use Rattle.reduction.specs.Sorted.{Named, sources, kept_of, pruned_of};
 
 use crate::source::Source;
-use automata::{Arrow, Mark};
+use automata::Mark;
 use labels::LabelAlgebra;
+use std::array;
 
-// By the state: its class. By the class: whether it is initial after pruning, whether it is accepting, and the first place
-// of its chain of arrows. By the place of an arrow: the next place of the chain. Places count from 1, and 0 ends a chain.
+// The places of the arrows, by the class of their source: by the class its last place, and by the place the one before it of
+// the same class. Chains of places and no lists, since nothing allocates.
 #[derive(Drop)]
-pub struct Classes {
-    pub names: [usize; 256],
-    pub initial: [bool; 256],
-    pub accepting: [bool; 256],
-    pub first: [u16; 256],
-    pub next: [u16; 8192],
+pub struct Chains {
+    pub last: [Option<u16>; 256],
+    pub before: [Option<u16>; 8192],
 }
 
-struct Marked {
-    initial: [bool; 256],
-    accepting: [bool; 256],
+// A book with its classes: by the state its class, and by the class its mark after pruning. Arrays side by side, since states,
+// classes and places are numbers of three kinds.
+#[derive(Drop)]
+pub struct Classes<'a, L: LabelAlgebra> {
+    pub book: Source<'a, L>,
+    pub names: [u8; 256],
+    pub marks: [Mark; 256],
+    pub chains: Chains,
+    ghost named: { Named (kept_of book) (length book.marks.now) names },
+    ghost initial: { (c : ℕ) → c < length book.marks.now → mark_is_start (slice_index_or marks c Neither) ≡ (pruned_of book).initial c },
+    ghost accepting: { (c : ℕ) → c < length book.marks.now → mark_accepts (slice_index_or marks c Neither) ≡ (pruned_of book).accepting c },
+    ghost heads: { Heads (sources (kept_of book) book.arrows.now) (length book.arrows.now) chains.last } by { Prim.hlevel props },
+    ghost links: { Links (sources (kept_of book) book.arrows.now) (length book.arrows.now) chains.before } by { Prim.hlevel props },
 }
 
-struct Chains {
-    first: [u16; 256],
-    next: [u16; 8192],
-}
+impl<L: LabelAlgebra> Source<'_, L> {
+    #[tactic(auto, unfolding(automata::specs::Reduction::same))]
+    fn is_same(&self, p: usize, q: usize) -> bool
+        requires { (p < 256) × (q < 256) }
+        ensures { result ≡ same (kept_of self.now) p q }
+    {
+        self.rows.keeps(p, q) && self.rows.keeps(q, p)
+    }
 
-// The least state that `p` is kept with both ways, or `p`.
-fn name_of(rows: &[u64], p: usize) -> usize
-    requires { (length rows.now ≡ 1024) × (p < 256) }
-    ensures { result ≡ name (pair rows.now) p }
-{
-    for q in 0..p {
-        if bits::is_kept(rows, p, q) && bits::is_kept(rows, q, p) {
-            return q;
+    // The least state that `p` is kept with both ways, or `p`.
+    fn name_of(&self, p: usize) -> u8
+        requires { p < 256 }
+        ensures { result ≡ name (kept_of self.now) p }
+    {
+        (0..p).find(|q| self.is_same(p, *q)).unwrap_or(p) as u8
+    }
+
+    fn names(&self) -> [u8; 256]
+        ensures { Named (kept_of self.now) (length self.now.marks.now) result }
+    {
+        // Past the states the array only has to be filled.
+        array::from_fn(
+            |p|
+                ensures { p < length self.entry.now.marks.now → result ≡ name (kept_of self.entry.now) p }
+            {
+                if p < self.marks.len() {
+                    self.name_of(p)
+                } else {
+                    0
+                }
+            },
+        )
+    }
+
+    // A class is marked as any of its states is, whatever relation the names are of.
+    fn merged_marks(&self, names: &[u8; 256]) -> [Mark; 256]
+        ensures initial { (K : ℕ → ℕ → Bool) → Named K (length self.now.marks.now) names.now → (c : ℕ) → mark_is_start (slice_index_or result c Neither) ≡ member (length self.now.marks.now) K (λ p. mark_is_start (slice_index_or self.now.marks.now p Neither)) c }
+        ensures accepting { (K : ℕ → ℕ → Bool) → Named K (length self.now.marks.now) names.now → (c : ℕ) → mark_accepts (slice_index_or result c Neither) ≡ member (length self.now.marks.now) K (λ p. mark_accepts (slice_index_or self.now.marks.now p Neither)) c }
+    {
+        let mut merged = [Mark::Neither; 256];
+        for (name, mark) in names.iter().zip(self.marks) {
+            let c = usize::from(*name);
+            let was = merged[c];
+            merged[c] = Mark::new(
+                mark.is_initial() | was.is_initial(),
+                mark.is_accepting() | was.is_accepting(),
+            );
         }
+        merged
     }
-    p
-}
 
-fn names_of(rows: &[u64], n: usize) -> [usize; 256]
-    requires { (length rows.now ≡ 1024) × (n ≤ 256) }
-    ensures { Named (pair rows.now) n result }
-{
-    let mut names = [0; 256];
-    for p in 0..n {
-        names[p] = name_of(rows, p);
+    #[tactic(auto, unfolding(automata::specs::Reduction::below))]
+    fn is_below(&self, c: usize, d: usize) -> bool
+        requires { (c < 256) × (d < 256) }
+        ensures { result ≡ below (kept_of self.now) c d }
+    {
+        c != d && self.rows.keeps(c, d)
     }
-    names
-}
 
-// A class is marked as any of its states is, whatever relation the names are of.
-fn merged_marks(names: &[usize], marks: &[Mark]) -> Marked
-    requires { (length marks.now ≤ length names.now) × (((p : ℕ) → p < length marks.now → slice_index names.now p < 256)) }
-    ensures initial { (K : ℕ → ℕ → Bool) → Named K (length marks.now) names.now → (c : ℕ) → slice_index_or result.initial c false ≡ member (length marks.now) K (λ p. mark_is_start (slice_index_or marks.now p Neither)) c }
-    ensures accepting { (K : ℕ → ℕ → Bool) → Named K (length marks.now) names.now → (c : ℕ) → slice_index_or result.accepting c false ≡ member (length marks.now) K (λ p. mark_accepts (slice_index_or marks.now p Neither)) c }
-{
-    let mut starting = [false; 256];
-    let mut accepting = [false; 256];
-    for p in 0..marks.len() {
-        let c = names[p];
-        let mark = marks[p];
-        starting[c] = mark.is_initial() | starting[c];
-        accepting[c] = mark.is_accepting() | accepting[c];
+    // Whether `c` is initial, and no class above it is.
+    fn is_highest(&self, marks: &[Mark; 256], c: usize) -> bool
+        requires { c < 256 }
+        ensures { result ≡ highest (length self.now.marks.now) (kept_of self.now) (λ e. mark_is_start (slice_index_or marks.now e Neither)) c }
+    {
+        marks[c].is_initial()
+            && !(0..self.marks.len()).any(
+                |e|
+                    requires { (c < 256) × (e < 256) }
+                { marks[e].is_initial() && self.is_below(c, e) },
+            )
     }
-    Marked {
-        initial: starting,
-        accepting,
-    }
-}
 
-fn is_below(rows: &[u64], c: usize, d: usize) -> bool
-    requires { (length rows.now ≡ 1024) × ((c < 256) × (d < 256)) }
-    ensures { result ≡ below (pair rows.now) c d }
-{
-    c != d && bits::is_kept(rows, c, d)
-}
-
-// Whether `c` passes, and no class above it does.
-fn is_highest(rows: &[u64], passes: &[bool], n: usize, c: usize) -> bool
-    requires { (length rows.now ≡ 1024) × ((n ≤ 256) × ((n ≤ length passes.now) × (c < n))) }
-    ensures { result ≡ highest n (pair rows.now) (λ e. get_or passes.now e false) c }
-{
-    for e in 0..n {
-        if passes[e] && is_below(rows, c, e) {
-            return false;
+    // Only the highest of the initial classes stay so.
+    fn pruned_marks(&self, marks: &[Mark; 256]) -> [Mark; 256]
+        ensures initial { (c : ℕ) → c < 256 → mark_is_start (slice_index_or result c Neither) ≡ highest (length self.now.marks.now) (kept_of self.now) (λ e. mark_is_start (slice_index_or marks.now e Neither)) c }
+        ensures accepting { (c : ℕ) → c < 256 → mark_accepts (slice_index_or result c Neither) ≡ mark_accepts (slice_index_or marks.now c Neither) }
+    {
+        let mut top = [Mark::Neither; 256];
+        for (c, mark) in marks.iter().enumerate() {
+            top[c] = Mark::new(self.is_highest(marks, c), mark.is_accepting());
         }
+        top
     }
-    passes[c]
+
+    fn chains(&self, names: &[u8; 256]) -> Chains
+        ensures last { Heads (map (λ x. slice_index names.now x.source) self.now.arrows.now) (length self.now.arrows.now) result.last }
+        ensures before { Links (map (λ x. slice_index names.now x.source) self.now.arrows.now) (length self.now.arrows.now) result.before }
+    {
+        let mut last = [None; 256];
+        let mut before = [None; 8192];
+        for (k, arrow) in self.arrows.iter().enumerate() {
+            let c = usize::from(names[usize::from(arrow.source)]);
+            before[k] = last[c];
+            last[c] = Some(k as u16);
+        }
+        Chains { last, before }
+    }
 }
 
-fn highest_of(rows: &[u64], passes: &[bool], n: usize) -> [bool; 256]
-    requires { (length rows.now ≡ 1024) × ((n ≤ 256) × (n ≤ length passes.now)) }
-    ensures { (c : ℕ) → c < n → slice_index_or result c false ≡ highest n (pair rows.now) (λ e. get_or passes.now e false) c }
-{
-    let mut top = [false; 256];
-    for c in 0..n {
-        top[c] = is_highest(rows, passes, n, c);
-    }
-    top
-}
-
-// The arrows by the class of their source.
-fn chains_of<P: Copy>(names: &[usize], arrows: &[Arrow<P>]) -> Chains
-    requires { (length arrows.now ≤ 8192) × (AllByRecursion (λ x. (x.source < length names.now) × (slice_index names.now x.source < 256)) arrows.now) }
-    ensures { Chained (map (λ x. slice_index names.now x.source) arrows.now) (length arrows.now) result.first result.next }
-{
-    let mut first = [0u16; 256];
-    let mut next = [0u16; 8192];
-    for k in 0..arrows.len() {
-        let c = names[arrows[k].source as usize];
-        next[k] = first[c];
-        first[c] = (k + 1) as u16;
-    }
-    Chains { first, next }
-}
-
-pub fn classes_of<L: LabelAlgebra>(book: &Source<'_, L>) -> Classes
-    requires { Bounded book.now.marks.now book.now.arrows.now book.now.rows.now }
-    ensures { Sorted (L.LabelAlgebra.holds book.now.labels.now) book.now.marks.now book.now.arrows.now book.now.rows.now result }
-{
-    let n = book.marks.len();
-    let names = names_of(book.rows, n);
-    let Marked {
-        initial: merged,
-        accepting,
-    } = merged_marks(&names, book.marks);
-    let initial = highest_of(book.rows, &merged, n);
-    let Chains { first, next } = chains_of(&names, book.arrows);
-    Classes {
-        names,
-        initial,
-        accepting,
-        first,
-        next,
+impl<'a, L: LabelAlgebra> Classes<'a, L> {
+    pub fn of(book: Source<'a, L>) -> Classes<'a, L>
+        ensures { result.book ≡ book.entry }
+    {
+        let names = book.names();
+        let marks = book.pruned_marks(&book.merged_marks(&names));
+        let chains = book.chains(&names);
+        Classes {
+            book,
+            names,
+            marks,
+            chains,
+        }
     }
 }

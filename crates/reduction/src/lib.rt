@@ -15,22 +15,21 @@ ghost use Rattle.bits.specs.Matrix.{pair};
 ghost use Rattle.reduction.specs.Filled.{Bounded, Filled, Crowded};
 
 use automata::{Arrow, Mark};
-use classes::classes_of;
+use bits::Rows;
+use classes::Classes;
 use labels::LabelAlgebra;
-use numbering::{count_links, number};
-use reaching::{Reached, reach};
 use source::Source;
-use writing::{write_arrows, write_marks, write_rows};
+use writing::write_rows;
 
 mod classes;
-mod numbering;
 mod pruning;
 mod reaching;
 mod source;
+mod staying;
 mod writing;
 
 // How many states and arrows a reduced book has.
-#[derive(Clone, Copy)]
+#[derive(Clone, Copy, PartialEq, Eq, Debug)]
 pub struct Counts {
     pub states: usize,
     pub arrows: usize,
@@ -42,34 +41,30 @@ pub fn reduce<'a, L: LabelAlgebra>(
     labels: &'a L,
     arrows: &'a [Arrow<L::Predicate>],
     marks: &'a [Mark],
-    rows: &'a [u64],
+    rows: &'a Rows<1024>,
     into_arrows: &mut [Arrow<L::Predicate>],
     into_marks: &mut [Mark],
-    into_rows: &mut [u64],
+    into_rows: &mut Rows<1024>,
 ) -> Option<Counts>
-    requires source { Bounded marks.now arrows.now rows.now }
-    requires target { (length into_marks.old ≡ 256) × (length into_rows.old ≡ 1024) }
-    ensures made { MatchOption result (Crowded (automaton (L.LabelAlgebra.holds labels.now) marks.now arrows.now) (pair rows.now) (length into_arrows.old)) (λ c. Filled (L.LabelAlgebra.holds labels.now) (automaton (L.LabelAlgebra.holds labels.now) marks.now arrows.now) (pair rows.now) c.states c.arrows into_marks.new into_arrows.new into_rows.new) }
-    ensures same { IfNone result ((into_marks.new ≡ into_marks.old) × (into_arrows.new ≡ into_arrows.old) × (into_rows.new ≡ into_rows.old)) }
-    ensures least { IfSome result (λ c. Greatest (automaton (L.LabelAlgebra.holds labels.now) marks.now arrows.now) (pair rows.now) → Minimal (automaton (L.LabelAlgebra.holds labels.now) marks.now arrows.now) (automaton (L.LabelAlgebra.holds labels.now) (take c.states into_marks.new) (take c.arrows into_arrows.new)) (pair into_rows.new) c.arrows) }
+    requires source { Bounded marks.now arrows.now }
+    requires target { length into_marks.old ≡ 256 }
+    ensures made { MatchOption result (Crowded (automaton (L.LabelAlgebra.holds labels.now) marks.now arrows.now) (pair rows.now.words) (length into_arrows.old)) (λ c. Filled (L.LabelAlgebra.holds labels.now) (automaton (L.LabelAlgebra.holds labels.now) marks.now arrows.now) (pair rows.now.words) c.states c.arrows into_marks.new into_arrows.new into_rows.new.words) }
+    ensures same { IfNone result ((into_marks.new ≡ into_marks.old) × (into_arrows.new ≡ into_arrows.old) × (into_rows.new.words ≡ into_rows.old.words)) }
+    ensures least { IfSome result (λ c. Greatest (automaton (L.LabelAlgebra.holds labels.now) marks.now arrows.now) (pair rows.now.words) → Minimal (automaton (L.LabelAlgebra.holds labels.now) marks.now arrows.now) (automaton (L.LabelAlgebra.holds labels.now) (take c.states into_marks.new) (take c.arrows into_arrows.new)) (pair into_rows.new.words) c.arrows) }
 {
-    let book = Source {
+    let classes = Classes::of(Source {
         labels,
         arrows,
         marks,
         rows,
-    };
-    let classes = classes_of(&book);
-    let Reached { stays, links } = reach(&book, &classes);
-    let mut numbers = [0; 256];
-    let states = number(&stays, marks.len(), &mut numbers);
-    let staying = &numbers[0..states];
-    let linked = count_links(&links, staying);
-    if into_arrows.len().min(8192) < linked {
+    });
+    let reached = classes.reach();
+    if into_arrows.len().min(8192) < reached.count_links() {
         return None;
     }
-    let arrows = write_arrows(&book, &classes, &links, staying, into_arrows);
-    write_marks(&classes, staying, into_marks);
-    write_rows(rows, staying, into_rows);
+    let arrows = classes.write_arrows(&reached, into_arrows);
+    classes.write_marks(&reached.staying, into_marks);
+    write_rows(rows, &reached.staying, into_rows);
+    let states = reached.staying.len();
     Some(Counts { states, arrows })
 }

@@ -1,9 +1,10 @@
 // What is reduced: the arrows, marks and kept pairs of a book, and the algebra of its labels.
 
-ghost use Rattle.std.specs.Prelude.{◌≡◌, ◌<◌, length};
-ghost use Rattle.std.specs.List.{HoldsAt};
+ghost use Rattle.std.specs.Prelude.{ℕ, ◌<◌, ◌≤◌, length};
+ghost use Rattle.reduction.specs.Filled.{EndsBelow};
 
 use automata::{Arrow, Mark};
+use bits::Rows;
 use labels::LabelAlgebra;
 
 #[derive(Drop)]
@@ -11,12 +12,8 @@ pub struct Source<'a, L: LabelAlgebra> {
     pub labels: &'a L,
     pub arrows: &'a [Arrow<L::Predicate>],
     pub marks: &'a [Mark],
-    pub rows: &'a [u64],
-}
-
-pub fn arrow_at<P: Copy>(arrows: &[Arrow<P>], k: usize) -> Arrow<P>
-    requires { k < length arrows.now }
-    ensures { HoldsAt (λ x. result ≡ x) arrows.now k }
-{
-    arrows[k]
+    pub rows: &'a Rows<1024>,
+    ghost few_states: { length marks.now ≤ 256 },
+    ghost few_arrows: { length arrows.now ≤ 8192 },
+    ghost within: { EndsBelow (length marks.now) arrows.now },
 }

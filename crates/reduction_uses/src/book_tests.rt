@@ -1,6 +1,7 @@
 // Books over style marks. The row of a state's pairs begins at four times the state.
 
 use automata::{Arrow, Mark};
+use bits::Rows;
 use labels::StyleMarks;
 use reduction::reduce;
 use std::test::Fail;
@@ -15,12 +16,12 @@ const BLANK: Arrow<u64> = Arrow {
 fn a_book_without_states_stays_so(rt: HostRuntime) -> Result<(), Fail> {
     let mut into_arrows = [BLANK; 0];
     let mut into_marks = [Mark::Both; 256];
-    let mut into_rows = [7; 1024];
+    let mut into_rows = Rows { words: [7; 1024] };
     let counts = reduce(
         &StyleMarks,
         &[BLANK; 0],
         &[Mark::Both; 0],
-        &[0; 1024],
+        &Rows { words: [0; 1024] },
         &mut into_arrows,
         &mut into_marks,
         &mut into_rows,
@@ -28,7 +29,8 @@ fn a_book_without_states_stays_so(rt: HostRuntime) -> Result<(), Fail> {
     .ok_or("no room")?;
     assert_eq!(rt; counts.states, 0);
     assert_eq!(rt; counts.arrows, 0);
-    assert_eq!(rt; into_rows[0], 0);
+    let word = into_rows.words[0];
+    assert_eq!(rt; word, 0);
     Ok(())
 }
 
@@ -39,12 +41,12 @@ fn an_initial_state_below_another_goes(rt: HostRuntime) -> Result<(), Fail> {
     rows[4] = 0b10;
     let mut into_arrows = [BLANK; 1];
     let mut into_marks = [Mark::Neither; 256];
-    let mut into_rows = [7; 1024];
+    let mut into_rows = Rows { words: [7; 1024] };
     let counts = reduce(
         &StyleMarks,
         &[BLANK; 0],
         &[Mark::Initial, Mark::Both],
-        &rows,
+        &Rows { words: rows },
         &mut into_arrows,
         &mut into_marks,
         &mut into_rows,
@@ -53,7 +55,8 @@ fn an_initial_state_below_another_goes(rt: HostRuntime) -> Result<(), Fail> {
     assert_eq!(rt; counts.states, 1);
     assert_eq!(rt; counts.arrows, 0);
     assert!(rt; into_marks[0].is_initial() && into_marks[0].is_accepting());
-    assert_eq!(rt; into_rows[0], 1);
+    let word = into_rows.words[0];
+    assert_eq!(rt; word, 1);
     Ok(())
 }
 
@@ -78,12 +81,12 @@ fn twins_become_one_state(rt: HostRuntime) -> Result<(), Fail> {
     rows[8] = 0b110;
     let mut into_arrows = [BLANK; 2];
     let mut into_marks = [Mark::Both; 256];
-    let mut into_rows = [7; 1024];
+    let mut into_rows = Rows { words: [7; 1024] };
     let counts = reduce(
         &StyleMarks,
         &arrows,
         &marks,
-        &rows,
+        &Rows { words: rows },
         &mut into_arrows,
         &mut into_marks,
         &mut into_rows,
@@ -100,7 +103,10 @@ fn twins_become_one_state(rt: HostRuntime) -> Result<(), Fail> {
         ),
         (0, 3, 1)
     );
-    assert_eq!(rt; (into_rows[0], into_rows[4], into_rows[8]), (1, 2, 0));
+    assert_eq!(rt;
+        (into_rows.words[0], into_rows.words[4], into_rows.words[8]),
+        (1, 2, 0)
+    );
     Ok(())
 }
 
@@ -130,12 +136,12 @@ fn one_arrow_and_two_arrows_of_the_same_symbols_become_one(rt: HostRuntime) -> R
     rows[8] = 0b100;
     let mut into_arrows = [BLANK; 3];
     let mut into_marks = [Mark::Both; 256];
-    let mut into_rows = [7; 1024];
+    let mut into_rows = Rows { words: [7; 1024] };
     let counts = reduce(
         &StyleMarks,
         &arrows,
         &marks,
-        &rows,
+        &Rows { words: rows },
         &mut into_arrows,
         &mut into_marks,
         &mut into_rows,
@@ -182,12 +188,12 @@ fn every_step_has_something_to_do(rt: HostRuntime) -> Result<(), Fail> {
     rows[12] = 0b1111;
     let mut into_arrows = [BLANK; 1];
     let mut into_marks = [Mark::Both; 256];
-    let mut into_rows = [7; 1024];
+    let mut into_rows = Rows { words: [7; 1024] };
     let counts = reduce(
         &StyleMarks,
         &arrows,
         &marks,
-        &rows,
+        &Rows { words: rows },
         &mut into_arrows,
         &mut into_marks,
         &mut into_rows,
@@ -203,7 +209,10 @@ fn every_step_has_something_to_do(rt: HostRuntime) -> Result<(), Fail> {
         ),
         (0, 1, 1)
     );
-    assert_eq!(rt; (into_rows[0], into_rows[4], into_rows[12]), (1, 2, 0));
+    assert_eq!(rt;
+        (into_rows.words[0], into_rows.words[4], into_rows.words[12]),
+        (1, 2, 0)
+    );
     Ok(())
 }
 
@@ -233,12 +242,12 @@ fn the_order_of_classes_that_stay_is_kept(rt: HostRuntime) -> Result<(), Fail> {
     rows[8] = 0b110;
     let mut into_arrows = [BLANK; 3];
     let mut into_marks = [Mark::Both; 256];
-    let mut into_rows = [7; 1024];
+    let mut into_rows = Rows { words: [7; 1024] };
     let counts = reduce(
         &StyleMarks,
         &arrows,
         &marks,
-        &rows,
+        &Rows { words: rows },
         &mut into_arrows,
         &mut into_marks,
         &mut into_rows,
@@ -254,7 +263,10 @@ fn the_order_of_classes_that_stay_is_kept(rt: HostRuntime) -> Result<(), Fail> {
         ),
         (0, 2, 2)
     );
-    assert_eq!(rt; (into_rows[0], into_rows[4], into_rows[8]), (1, 2, 6));
+    assert_eq!(rt;
+        (into_rows.words[0], into_rows.words[4], into_rows.words[8]),
+        (1, 2, 6)
+    );
     Ok(())
 }
 
@@ -279,12 +291,12 @@ fn a_table_one_arrow_too_short_alters_nothing(rt: HostRuntime) {
     rows[8] = 0b100;
     let mut into_arrows = [BLANK; 1];
     let mut into_marks = [Mark::Both; 256];
-    let mut into_rows = [7; 1024];
+    let mut into_rows = Rows { words: [7; 1024] };
     let counts = reduce(
         &StyleMarks,
         &arrows,
         &marks,
-        &rows,
+        &Rows { words: rows },
         &mut into_arrows,
         &mut into_marks,
         &mut into_rows,
@@ -299,5 +311,6 @@ fn a_table_one_arrow_too_short_alters_nothing(rt: HostRuntime) {
         (9, 9, 9)
     );
     assert!(rt; into_marks[0].is_initial() && into_marks[0].is_accepting());
-    assert_eq!(rt; into_rows[0], 7);
+    let word = into_rows.words[0];
+    assert_eq!(rt; word, 7);
 }

@@ -1,5 +1,6 @@
 // What a book holds: its condition, its states, its arrows, and the kept pairs of a settled one.
 
+use automata::Arrow;
 use labels::Both;
 use rulebook::Book;
 use script::letter_of;
@@ -14,10 +15,11 @@ fn print_states(rt: &HostRuntime, book: &Book<'_, Both<u64, u64>>) -> io::Result
 
 fn print_arrows(rt: &HostRuntime, book: &Book<'_, Both<u64, u64>>) -> io::Result<()> {
     for arrow in book.arrows() {
-        let source = arrow.source;
-        let target = arrow.target;
-        let left = arrow.label.left;
-        let right = arrow.label.right;
+        let Arrow {
+            source,
+            label: Both { left, right },
+            target,
+        } = *arrow;
         println!(rt; "arrow,{source},{target},{left:016x}{right:016x}")?;
     }
     Ok(())
@@ -34,7 +36,7 @@ fn print_above(rt: &HostRuntime, book: &Book<'_, Both<u64, u64>>, p: u16) -> io:
     println!(rt; "")
 }
 
-// A line for each state of a settled book.
+// A line for each state of a settled book: of all numbers that a state can have, those that the book does not decline.
 fn print_order(rt: &HostRuntime, book: &Book<'_, Both<u64, u64>>) -> io::Result<()> {
     for p in 0..256 {
         if book.ask(p, p).is_ok() {
@@ -45,6 +47,7 @@ fn print_order(rt: &HostRuntime, book: &Book<'_, Both<u64, u64>>) -> io::Result<
 }
 
 pub(crate) fn print_book(rt: &HostRuntime, book: &Book<'_, Both<u64, u64>>) -> io::Result<()> {
+    // A word at the one place that prints it: a `Display` would take a type of its own.
     let condition = if book.is_open() { "open" } else { "settled" };
     println!(rt; "{condition}")?;
     print_states(rt, book)?;

@@ -10,19 +10,15 @@ ghost use Rattle.histories.specs.Held.{Held};
 use answers::print_answers;
 use automata::Arrow;
 use book::print_book;
-use histories::{Answer, replay};
+use histories::{Answer, Scene};
+use input::{Failure, read_input, report};
 use labels::{Both, CodePoints, LabelAlgebra, StyleMarks, Sum};
-use lines::Fault;
 use rulebook::{Book, Ticket};
-use script::{OWN, Refusal, Script, read_script};
+use script::{OWN, Script, read_script};
 use std::io;
-use std::io::Read;
 
 mod answers;
 mod book;
-
-// Longer inputs are refused unread.
-const MOST: usize = 65_536;
 
 // How many arrows each of the two books can take.
 const PLACES: usize = 8_192;
@@ -39,6 +35,7 @@ fn spend(
     requires { Held (view book.old) held }
 {
     if let Some(ticket) = held {
+        // Not `unwrap`: an error would hold the ticket, which may not be let go.
         match book.settle(labels, ticket) {
             Ok(_) => {}
             Err((_, _ticket)) => unreachable(),
@@ -56,25 +53,20 @@ fn carry_out(rt: &HostRuntime, script: &Script) -> io::Result<()> {
         label: labels.none(),
         target: 0,
     };
-    let mut table = [blank; PLACES];
-    let mut room = [blank; PLACES];
-    let mut answers = Vec::new(rt.alloc());
-    for _ in script.calls.iter() {
-        answers.push(Answer::Done)?;
-    }
+    let mut table = vec![in rt.alloc(); blank; PLACES]?;
+    let mut room = vec![in rt.alloc(); blank; PLACES]?;
+    let mut answers = vec![in rt.alloc(); Ok(Answer::Done); script.calls.len()]?;
     let mut rows = [0; 1024];
     let mut book = Book::new(&mut table, OWN);
     let mut target = Book::new(&mut room, TARGET);
-    match replay(
-        &labels,
-        &script.symbols,
-        &mut rows,
-        &mut book,
-        None,
-        &mut target,
-        &script.calls,
-        &mut answers,
-    ) {
+    let mut scene = Scene {
+        text: &script.symbols,
+        words: &mut rows,
+        book: &mut book,
+        target: &mut target,
+    };
+    // On both ways a ticket may come back, which has to be spent before `?` may leave.
+    match scene.replay(&labels, None, &script.calls, &mut answers) {
         Ok(held) => {
             let printed = print_answers(rt, &answers);
             let listed = print_book(rt, &book);
@@ -84,30 +76,18 @@ fn carry_out(rt: &HostRuntime, script: &Script) -> io::Result<()> {
         }
         Err((refusal, held)) => {
             spend(&labels, &mut book, held);
-            let number = refusal.number();
-            println!(rt; "declined,{number}")
+            println!(rt; "declined,{}", refusal.number())
         }
     }
 }
 
-fn print_fault(rt: &HostRuntime, fault: Fault) -> io::Result<()> {
-    let number = fault.number();
-    let place = fault.place();
-    let line = place.line;
-    let offset = place.offset;
-    println!(rt; "refused,{number},{line},{offset}")
+fn run(rt: &HostRuntime) -> Result<(), Failure> {
+    let text = read_input(rt)?;
+    let script = read_script(rt.alloc(), &text)?;
+    carry_out(rt, &script)?;
+    Ok(())
 }
 
 fn main(rt: HostRuntime) -> io::Result<()> {
-    let mut text = Vec::new(rt.alloc());
-    let mut input = rt.stdin().take(MOST as u64 + 1);
-    let _n = input.read_to_end(&mut text)?;
-    if text.len() > MOST {
-        return println!(rt; "refused,14,0,65536");
-    }
-    match read_script(rt.alloc(), &text) {
-        Ok(script) => carry_out(&rt, &script),
-        Err(Refusal::Fault(fault)) => print_fault(&rt, fault),
-        Err(Refusal::Memory) => Err(std::alloc::AllocError.into()),
-    }
+    report(&rt, run(&rt))
 }

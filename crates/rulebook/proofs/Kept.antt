@@ -1,5 +1,5 @@
 -- Kept pairs as the invariants of a book say them. Assumes nothing.
-use Rattle.std.proofs.Common.{◌≡◌, ℕ, ◌<◌, ◌≤◌, Bool, true, false, ◌&&◌, T, ◌⊎◌, List, replicate, sym, ap, ◌∙◌, inl, inr}
+use Rattle.std.proofs.Common.{◌≡◌, ℕ, ◌<◌, ◌≤◌, Bool, true, false, ◌&&◌, T, ◌⊎◌, List, sym, ap, ◌∙◌, inl, inr}
 use Rattle.std.proofs.lemmas.Bool.{false≢true, cases_lt, and_parts}
 use Rattle.bits.specs.Matrix.{pair}
 use Rattle.automata.specs.Below.{any_below}
@@ -7,19 +7,15 @@ use Rattle.automata.specs.Simulation.{through}
 use Rattle.automata.proofs.Tests.{both, parts}
 use Rattle.automata.proofs.Below.{found, finds}
 use Rattle.automata.proofs.Simulations.{Preorder}
-use Rattle.reduction.proofs.Blank.{get_or_blank, pair_zero}
 use Rattle.reduction.proofs.Naming.{to_T, from_T}
 use Rattle.rulebook.specs.declared.parts.Condition.{Condition}
 use Rattle.rulebook.specs.declared.parts.Condition.TheVariants.{Settled}
 use Rattle.rulebook.specs.Refusals.{is_settled}
-use Rattle.rulebook.specs.Invariants.{Reflexive, Transitive, Bounded}
+use Rattle.rulebook.specs.Invariants.{Reflexive, Transitive, OnStates}
 
 pub through_none : (K : ℕ → ℕ → Bool) (p r : ℕ) → through 0 K K p r ≡ true → ⊥
 unfolding any_below
 through_none K p r e = false≢true e
-
-pub blank_none : (p q : ℕ) → pair (replicate 1024 0) p q ≡ true → ⊥
-blank_none p q e = false≢true (sym (pair_zero (replicate 1024 0) (λ i. get_or_blank 1024 i 0) p q) ∙ e)
 
 module _ (n : ℕ) (rows : List ℕ) where
   -- a kept pair is of states, where no other pair is kept
@@ -36,7 +32,7 @@ module _ (n : ℕ) (rows : List ℕ) where
       from_T _ (o.trans (within p m.0 (from_T _ k.0)).0 m.1 (within m.0 r (from_T _ k.1)).1 k.0 k.1)
 
   -- a preorder on the states and nothing beyond is what a settled book may keep
-  pub ordered : (c : Condition) → Preorder n (pair rows) → ((p q : ℕ) → (n ≤ p) ⊎ (n ≤ q) → pair rows p q ≡ false) → Reflexive c n rows × Transitive c n rows × Bounded c n rows
+  pub ordered : (c : Condition) → Preorder n (pair rows) → ((p q : ℕ) → (n ≤ p) ⊎ (n ≤ q) → pair rows p q ≡ false) → Reflexive c n rows × Transitive c n rows × OnStates c n rows
   ordered c o empty = (
     (λ s p h. from_T _ (o.self h)),
     (λ p r e. kept-through o (inside empty) p r (to_T (and_parts (is_settled c) _ e).1)),

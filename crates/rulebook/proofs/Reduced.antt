@@ -1,5 +1,5 @@
 -- A book that holds a reduction: its arrows end at its states, and its kept pairs are a preorder. Assumes nothing.
-use Rattle.std.proofs.Common.{◌≡◌, ℕ, ◌<◌, ◌≤◌, Bool, T, eqb, ◌⊎◌, List, [], ◌∷◌, length, take, sym, refl, ap, ◌∙◌, subst, inl, inr, arith, eqb→eq}
+use Rattle.std.proofs.Common.{◌≡◌, ℕ, ◌<◌, ◌≤◌, Bool, T, eqb, ◌⊎◌, List, [], ◌∷◌, length, take, sym, ap, ◌∙◌, subst, inl, inr, arith, eqb→eq, Ok, Err, Result, MatchResult, IfOk}
 use lib.Dec.{eqb_refl}
 use Rattle.std.specs.List.{AllByRecursion}
 use Rattle.std.proofs.lemmas.List.{length-map, length-take-le, get_or-take}
@@ -19,12 +19,13 @@ use Rattle.automata.proofs.Names.{equal, below_from, below_to}
 use Rattle.automata.proofs.Simulations.{Preorder, simulations}
 use Rattle.automata.proofs.Tables.{rows_all}
 use Rattle.automata.proofs.Book.{books}
-use Rattle.reduction.specs.Filled.{Filled}
+use Rattle.reduction.specs.Filled.{Filled, Crowded}
 use Rattle.reduction.specs.declared.Counts.{Counts}
 use Rattle.rulebook.specs.declared.parts.Condition.{Condition}
-use Rattle.rulebook.specs.declared.parts.Condition.TheVariants.{Settled}
-use Rattle.rulebook.specs.Invariants.{EndsIn, Reflexive, Transitive, Bounded}
+use Rattle.rulebook.specs.Invariants.{EndsIn, Reflexive, Transitive, OnStates}
 use Rattle.rulebook.specs.Model.{Abstract, machine}
+use Rattle.rulebook.specs.declared.parts.Refusal.{Refusal}
+use Rattle.rulebook.specs.declared.parts.Refusal.TheVariants.{TooSmall}
 use Rattle.rulebook.specs.Reducing.{ReducedInto}
 use Rattle.rulebook.proofs.Kept.{ordered}
 
@@ -83,26 +84,17 @@ filled_ends holds M K n m marks slots rows f =
           rw get_or-take at (rw long at (All-get_or (Within (length (take n marks))) (take m slots) k d (omega arith) (reduced_within holds M K (take n marks) (take m slots) (pair rows) f.book))),
     )
 
-pub filled_order : {P V : Type 0} (holds : P → V → Bool) (M : Automaton V) (K : ℕ → ℕ → Bool) (n m : ℕ) (marks : List Mark) (slots : List (Arrow P)) (rows : List ℕ) → Filled holds M K n m marks slots rows → Preorder M.size K → (c : Condition) → Reflexive c n rows × Transitive c n rows × Bounded c n rows
+pub filled_order : {P V : Type 0} (holds : P → V → Bool) (M : Automaton V) (K : ℕ → ℕ → Bool) (n m : ℕ) (marks : List Mark) (slots : List (Arrow P)) (rows : List ℕ) → Filled holds M K n m marks slots rows → Preorder M.size K → (c : Condition) → Reflexive c n rows × Transitive c n rows × OnStates c n rows
 filled_order holds M K n m marks slots rows f o c =
     ordered n rows c (subst (λ (k : ℕ). Preorder k (pair rows)) (length-take-le n marks f.states_fit) (reduced_preorder holds M K (take n marks) (take m slots) (pair rows) f.book o)) f.rest
-
-pub reduced_into : {P V : Type 0} (holds : P → V → Bool) (b t t' : Abstract P) (K : ℕ → ℕ → Bool) (c : Counts) (marks : List Mark) (slots : List (Arrow P)) (rows : List ℕ) → Filled holds (machine holds b) K c.states c.arrows marks slots rows
-    → t' ≡ record { number = t.number; room = t.room; marks = take c.states marks; arrows = take c.arrows slots; condition = Settled } → ReducedInto holds b K t c t' (pair rows)
-reduced_into holds b t t' K c marks slots rows f e =
-    let fit = f.arrows_fit in
-    let l : c.arrows ≤ length slots = omega arith in
-    subst (λ x. ReducedInto holds b K t c x (pair rows)) (sym e) record {
-      book = f.book;
-      states = sym (length-take-le c.states marks f.states_fit);
-      arrows = sym (length-take-le c.arrows slots l);
-      number = refl;
-      room = refl;
-      condition = refl;
-    }
 
 -- where the kept pairs are those of the simulations, the target is minimal
 pub into_minimal : {P V : Type 0} (holds : P → V → Bool) (b t t' : Abstract P) (K L : ℕ → ℕ → Bool) (c : Counts) → ReducedInto holds b K t c t' L → Keeps (machine holds b) K → Minimal (machine holds b) (machine holds t') L c.arrows
 into_minimal holds b t t' K L c r k =
     subst (λ (n : ℕ). Minimal (machine holds b) (machine holds t') L n) (sym r.arrows)
     ((books _ _).minimal holds (machine holds b) K t'.marks t'.arrows L (((simulations _).keeps (machine holds b) K).1 k) r.book)
+
+pub reduces_least : {P V : Type 0} (holds : P → V → Bool) (b t t' : Abstract P) (K L' : ℕ → ℕ → Bool) (r : Result Counts Refusal) → MatchResult r (λ c. ReducedInto holds b K t c t' L') (λ e. (e ≡ TooSmall) × Crowded (machine holds b) K t.room)
+    → IfOk r (λ c. Keeps (machine holds b) K → Minimal (machine holds b) (machine holds t') L' c.arrows)
+reduces_least holds b t t' K L' (Ok c) m = λ k. into_minimal holds b t t' K L' c m k
+reduces_least holds b t t' K L' (Err x) m = tt

@@ -21,5 +21,5 @@ abbrev pub Transitive : Condition → ℕ → List ℕ → Type 0
 Transitive c n rows = (p r : ℕ) → (is_settled c && through n (pair rows) (pair rows) p r) ≡ true → pair rows p r ≡ true
 
 -- only pairs of states are kept
-abbrev pub Bounded : Condition → ℕ → List ℕ → Type 0
-Bounded c n rows = (p q : ℕ) → (is_settled c && pair rows p q) ≡ true → (p < n) × (q < n)
+abbrev pub OnStates : Condition → ℕ → List ℕ → Type 0
+OnStates c n rows = (p q : ℕ) → (is_settled c && pair rows p q) ≡ true → (p < n) × (q < n)

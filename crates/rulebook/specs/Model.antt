@@ -1,5 +1,6 @@
 -- An abstract book, and what each call answers and leaves of it. A refusal leaves the book as it was. Assumes nothing.
-use Rattle.std.specs.Prelude.{ℕ, ◌+◌, ◌*◌, min, Bool, cond, ◌&&◌, List, [], ◌∷◌, ◌++◌, length, Ok, Err, Result, ◌==◌, nat_le, nat_lt, slice_index_or, slice_set}
+use Rattle.std.specs.Prelude.{◌≡◌, ℕ, ◌+◌, ◌*◌, min, Bool, cond, ◌&&◌, List, [], ◌∷◌, ◌++◌, length, Ok, Err, Result, ◌==◌, nat_le, nat_lt, slice_index_or, slice_set}
+use Rattle.std.specs.Result.{result_and}
 use Rattle.std.specs.List.{remove}
 use Rattle.automata.specs.declared.Arrow.{Arrow}
 use Rattle.automata.specs.declared.Mark.{Mark}
@@ -24,11 +25,6 @@ pub record Abstract (P : Type 0) : Type 0 where
 pub record Outcome (P R : Type 0) : Type 0 where
   pub answer : Result R Refusal
   pub next : Abstract P
-
--- a check that comes before the answer
-abbrev pub after : {A R : Type 0} → Result A Refusal → Result R Refusal → Result R Refusal
-after (Ok x) r = r
-after (Err e) r = Err e
 
 module _ {P : Type 0} where
   -- the automaton of the book, where `holds` says of which values a label holds
@@ -70,6 +66,13 @@ module _ {P : Type 0} where
   abbrev pub by : {R : Type 0} → Result Condition Refusal → Abstract P → (Condition → Outcome P R) → Outcome P R
   by (Ok c) b go = go c
   by (Err e) b go = refused e b
+
+  -- what every edit leaves: the number, the room and the condition, and the whole book where it is settled
+  pub record Edited (b b' : Abstract P) : Type 0 where
+    pub number : b'.number ≡ b.number
+    pub room : b'.room ≡ b.room
+    pub condition : b'.condition ≡ b.condition
+    pub still : b.condition ≡ Settled → b' ≡ b
 
   -- Open: 6. The answer is the number that the ticket bears.
   abbrev pub opening : Abstract P → Outcome P ℕ
@@ -113,11 +116,11 @@ module _ {P : Type 0} where
 
   -- Ask: 6, 2. The answer is whether p, q is among the kept pairs.
   abbrev pub asking : Abstract P → (ℕ → ℕ → Bool) → ℕ → ℕ → Result Bool Refusal
-  asking b K p q = after (judged b.condition Reads) (cond (state_exists b p && state_exists b q) (Ok (K p q)) (Err NoSuchState))
+  asking b K p q = result_and (judged b.condition Reads) (cond (state_exists b p && state_exists b q) (Ok (K p q)) (Err NoSuchState))
 
   -- Copy rows into n words: 6, 3.
   abbrev pub copying : Abstract P → ℕ → Result (Unit {0}) Refusal
-  copying b n = after (judged b.condition Reads) (cond (nat_le (4 * length b.marks) n) (Ok tt) (Err TooSmall))
+  copying b n = result_and (judged b.condition Reads) (cond (nat_le (4 * length b.marks) n) (Ok tt) (Err TooSmall))
 
   -- a settled book with no states
   abbrev pub book_is_empty : Abstract P → Bool
@@ -125,4 +128,4 @@ module _ {P : Type 0} where
 
   -- Reduce into the book t: 6, 9; whether 3 applies is said beside it.
   abbrev pub reducing : Abstract P → Abstract P → Result (Unit {0}) Refusal
-  reducing b t = after (judged b.condition Reads) (cond (book_is_empty t) (Ok tt) (Err TargetTaken))
+  reducing b t = result_and (judged b.condition Reads) (cond (book_is_empty t) (Ok tt) (Err TargetTaken))

@@ -24,9 +24,9 @@ abbrev pub DeclinedBy : {P V : Type 0} → (P → V → Bool) → Abstract P →
 DeclinedBy holds b K t e = (reducing b t ≡ Err e) ⊎ ((reducing b t ≡ Ok tt) × (e ≡ TooSmall) × Crowded (machine holds b) K t.room)
 
 -- what reduce answers, and the target t with the pairs L before the call, t' with L' after it
-abbrev pub Reduces : {P V : Type 0} → (P → V → Bool) → Abstract P → (ℕ → ℕ → Bool) → Abstract P → (ℕ → ℕ → Bool) → Result Counts Refusal → Abstract P → (ℕ → ℕ → Bool) → Type 0
-Reduces holds b K t L (Ok c) t' L' = (reducing b t ≡ Ok tt) × ReducedInto holds b K t c t' L'
-Reduces holds b K t L (Err e) t' L' = DeclinedBy holds b K t e × (t' ≡ t) × (L' ≡ L)
+abbrev pub ReduceGives : {P V : Type 0} → (P → V → Bool) → Abstract P → (ℕ → ℕ → Bool) → Abstract P → (ℕ → ℕ → Bool) → Result Counts Refusal → Abstract P → (ℕ → ℕ → Bool) → Type 0
+ReduceGives holds b K t L (Ok c) t' L' = (reducing b t ≡ Ok tt) × ReducedInto holds b K t c t' L'
+ReduceGives holds b K t L (Err e) t' L' = DeclinedBy holds b K t e × (t' ≡ t) × (L' ≡ L)
 
 -- the first 4n words hold the pairs of K, and no other bit; later words stay
 pub record Copied (n : ℕ) (K : ℕ → ℕ → Bool) (old new : List ℕ) : Type 0 where

@@ -1,24 +1,24 @@
 // The structs: a book over a lent table, and its ticket.
 
-ghost use Rattle.std.specs.Prelude.{◌≡◌, ℕ, ◌≤◌, length};
-ghost use Rattle.rulebook.specs.Invariants.{EndsIn, Reflexive, Transitive, Bounded};
+ghost use Rattle.std.specs.Prelude.{◌≡◌, ◌≤◌, length};
+ghost use Rattle.rulebook.specs.Invariants.{EndsIn, Reflexive, Transitive, OnStates};
 
 use crate::parts::{Act, Condition, Refusal};
 use automata::{Arrow, Mark};
+use bits::Rows;
 
 mod asking;
 mod editing;
 mod opening;
 mod reducing;
 mod settling;
-mod slots;
 
 // Leave to edit the open book with this number. It is not `Drop`: whoever opens a book has to settle it.
 pub struct Ticket {
     number: u32,
 }
 
-// All of a book but its arrows. Of the rows, bit q mod 64 of word 4p + q div 64 says that p, q is kept.
+// All of a book but its arrows. The marks are those of the first states: nothing is allocated, so their room is fixed.
 #[derive(Drop)]
 struct Inner {
     number: u32,
@@ -26,27 +26,21 @@ struct Inner {
     marks: [Mark; 256],
     arrows: usize,
     condition: Condition,
-    rows: [u64; 1024],
+    rows: Rows<1024>,
     ghost few_states: { states ≤ 256 },
     ghost few_arrows: { arrows ≤ 8192 },
     ghost all_marks: { length marks ≡ 256 },
-    ghost all_rows: { length rows ≡ 1024 },
-    ghost reflexive: { Reflexive condition states rows },
-    ghost transitive: { Transitive condition states rows },
-    ghost bounded: { Bounded condition states rows },
+    ghost reflexive: { Reflexive condition states rows.words },
+    ghost transitive: { Transitive condition states rows.words },
+    ghost bounded: { OnStates condition states rows.words },
 }
 
-// The lent table. It is a struct of its own so that its slice can be lent on.
-#[derive(Drop)]
-struct Table<'t, P> {
-    slots: &'t mut [Arrow<P>],
-}
-
-// A rule book: its first arrows are those of the table, and their ends exist.
+// A rule book over a lent table: its arrows are the first ones there, and their ends exist.
+// A table with a count, since it is lent for longer than any call and arrows come and go in it.
 #[derive(Drop)]
 pub struct Book<'t, P> {
-    table: Table<'t, P>,
+    slots: &'t mut [Arrow<P>],
     inner: Inner,
-    ghost fits: { inner.arrows ≤ length table.slots.now },
-    ghost ends: { EndsIn inner.states inner.arrows table.slots.now },
+    ghost fits: { inner.arrows ≤ length slots.now },
+    ghost ends: { EndsIn inner.states inner.arrows slots.now },
 }

@@ -1,7 +1,7 @@
 // A book's condition, what a call does to it, and why a call is declined.
 
 ghost use Rattle.std.specs.Prelude.{◌≡◌};
-ghost use Rattle.rulebook.specs.Refusals.{refusal_number};
+ghost use Rattle.rulebook.specs.Refusals.{refusal_number, judged};
 
 // Settled, or being edited under a ticket.
 #[derive(Clone, Copy)]
@@ -19,18 +19,35 @@ pub enum Act {
     Reads,
 }
 
-// Why a call is declined.
+// Why a call is declined, by the numbers that formats and programs name.
 #[derive(Clone, Copy, PartialEq, Eq, Debug)]
 pub enum Refusal {
-    StatesFull,
-    NoSuchState,
-    TooSmall,
-    EmptyLabel,
-    NoSuchArrow,
-    BookOpen,
-    NotOpen,
-    ForeignTicket,
-    TargetTaken,
+    StatesFull = 1,
+    NoSuchState = 2,
+    TooSmall = 3,
+    EmptyLabel = 4,
+    NoSuchArrow = 5,
+    BookOpen = 6,
+    NotOpen = 7,
+    ForeignTicket = 8,
+    TargetTaken = 9,
+}
+
+impl Condition {
+    // The condition that a call leaves, or why it is declined.
+    // Matched together, so that each pair of a condition and a call is seen to have its case.
+    pub(crate) fn judge(self, act: Act) -> Result<Condition, Refusal>
+        ensures { result ≡ judged self act }
+    {
+        match (self, act) {
+            (Condition::Settled, Act::Opens) => Ok(Condition::Open),
+            (Condition::Settled, Act::Edits | Act::Settles) => Err(Refusal::NotOpen),
+            (Condition::Settled, Act::Reads) => Ok(Condition::Settled),
+            (Condition::Open, Act::Opens | Act::Reads) => Err(Refusal::BookOpen),
+            (Condition::Open, Act::Edits) => Ok(Condition::Open),
+            (Condition::Open, Act::Settles) => Ok(Condition::Settled),
+        }
+    }
 }
 
 impl Refusal {
@@ -38,16 +55,6 @@ impl Refusal {
     pub fn number(self) -> u8
         ensures { result ≡ refusal_number self }
     {
-        match self {
-            Refusal::StatesFull => 1,
-            Refusal::NoSuchState => 2,
-            Refusal::TooSmall => 3,
-            Refusal::EmptyLabel => 4,
-            Refusal::NoSuchArrow => 5,
-            Refusal::BookOpen => 6,
-            Refusal::NotOpen => 7,
-            Refusal::ForeignTicket => 8,
-            Refusal::TargetTaken => 9,
-        }
+        self as u8
     }
 }

@@ -3,7 +3,8 @@
 
 ghost use Rattle.std.specs.Prelude.{◌≡◌, IfOk};
 ghost use Rattle.rulebook.specs.declared.parts.Condition.TheVariants.{Settled, Open};
-ghost use Rattle.rulebook.specs.View.{view};
+ghost use Rattle.rulebook.specs.Model.{Edited};
+ghost use Rattle.rulebook.specs.View.{view, number_of};
 
 use automata::{Arrow, Mark};
 use labels::StyleMarks;
@@ -15,40 +16,26 @@ pub const BLANK: Arrow<u64> = Arrow {
     target: 9,
 };
 
-fn numbered<T>(res: Result<T, Refusal>) -> Result<T, u8> {
-    match res {
-        Ok(value) => Ok(value),
-        Err(why) => Err(why.number()),
-    }
-}
-
 pub(crate) fn open(book: &mut Book<'_, u64>) -> Ticket
     requires { (view book.old).condition ≡ Settled }
-    ensures bears { result.number ≡ (view book.old).number }
+    ensures bears { number_of result ≡ (view book.old).number }
     ensures number { (view book.new).number ≡ (view book.old).number }
     ensures opens { (view book.new).condition ≡ Open }
 {
-    match book.open() {
-        Ok(ticket) => ticket,
-        Err(_) => unreachable(),
-    }
+    book.open().unwrap()
 }
 
 // Opens a book that may be open.
 pub(crate) fn try_open(book: &mut Book<'_, u64>) -> Result<Ticket, u8>
-    ensures { IfOk result (λ t. ((view book.new).condition ≡ Open) × (t.number ≡ (view book.new).number)) }
+    ensures { IfOk result (λ t. ((view book.new).condition ≡ Open) × (number_of t ≡ (view book.new).number)) }
 {
-    match book.open() {
-        Ok(ticket) => Ok(ticket),
-        Err(why) => Err(why.number()),
-    }
+    book.open().map_err(Refusal::number)
 }
 
 pub(crate) fn add_state(book: &mut Book<'_, u64>, ticket: &Ticket, mark: Mark) -> Result<u16, u8>
-    ensures number { (view book.new).number ≡ (view book.old).number }
-    ensures condition { (view book.new).condition ≡ (view book.old).condition }
+    ensures { Edited (view book.old) (view book.new) }
 {
-    numbered(book.add_state(ticket, mark))
+    book.add_state(ticket, mark).map_err(Refusal::number)
 }
 
 pub(crate) fn re_mark(
@@ -57,10 +44,9 @@ pub(crate) fn re_mark(
     state: u16,
     mark: Mark,
 ) -> Result<Mark, u8>
-    ensures number { (view book.new).number ≡ (view book.old).number }
-    ensures condition { (view book.new).condition ≡ (view book.old).condition }
+    ensures { Edited (view book.old) (view book.new) }
 {
-    numbered(book.re_mark(ticket, state, mark))
+    book.re_mark(ticket, state, mark).map_err(Refusal::number)
 }
 
 pub(crate) fn add_arrow(
@@ -70,23 +56,21 @@ pub(crate) fn add_arrow(
     label: u64,
     target: u16,
 ) -> Result<usize, u8>
-    ensures number { (view book.new).number ≡ (view book.old).number }
-    ensures condition { (view book.new).condition ≡ (view book.old).condition }
+    ensures { Edited (view book.old) (view book.new) }
 {
-    numbered(book.add_arrow(&StyleMarks, ticket, source, label, target))
+    book.add_arrow(&StyleMarks, ticket, source, label, target)
+        .map_err(Refusal::number)
 }
 
 pub(crate) fn strike(book: &mut Book<'_, u64>, ticket: &Ticket, place: usize) -> Result<(), u8>
-    ensures number { (view book.new).number ≡ (view book.old).number }
-    ensures condition { (view book.new).condition ≡ (view book.old).condition }
+    ensures { Edited (view book.old) (view book.new) }
 {
-    numbered(book.strike(ticket, place))
+    book.strike(ticket, place).map_err(Refusal::number)
 }
 
 // Adds unmarked states, and answers what the last of them was answered.
 pub(crate) fn add_states(book: &mut Book<'_, u64>, ticket: &Ticket, count: usize) -> Result<u16, u8>
-    ensures number { (view book.new).number ≡ (view book.old).number }
-    ensures condition { (view book.new).condition ≡ (view book.old).condition }
+    ensures { Edited (view book.old) (view book.new) }
 {
     let mut last = Err(0);
     for _ in 0..count {
@@ -96,10 +80,12 @@ pub(crate) fn add_states(book: &mut Book<'_, u64>, ticket: &Ticket, count: usize
 }
 
 pub(crate) fn settle(book: &mut Book<'_, u64>, ticket: Ticket) -> usize
-    requires { ((view book.old).condition ≡ Open) × (ticket.number ≡ (view book.old).number) }
+    requires open { (view book.old).condition ≡ Open }
+    requires own { number_of ticket ≡ (view book.old).number }
     ensures number { (view book.new).number ≡ (view book.old).number }
     ensures settled { (view book.new).condition ≡ Settled }
 {
+    // Not `unwrap`: an error would hold the ticket, which may not be let go.
     match book.settle(&StyleMarks, ticket) {
         Ok(pairs) => pairs,
         Err(_) => unreachable(),
@@ -107,11 +93,11 @@ pub(crate) fn settle(book: &mut Book<'_, u64>, ticket: Ticket) -> usize
 }
 
 pub(crate) fn ask(book: &Book<'_, u64>, lower: u16, upper: u16) -> Result<bool, u8> {
-    numbered(book.ask(lower, upper))
+    book.ask(lower, upper).map_err(Refusal::number)
 }
 
 pub(crate) fn copy_rows(book: &Book<'_, u64>, words: &mut [u64]) -> Result<(), u8> {
-    numbered(book.copy_rows(words))
+    book.copy_rows(words).map_err(Refusal::number)
 }
 
 // Answers how many states and arrows the target has.
@@ -119,8 +105,6 @@ pub(crate) fn reduce(
     book: &Book<'_, u64>,
     target: &mut Book<'_, u64>,
 ) -> Result<(usize, usize), u8> {
-    match book.reduce(&StyleMarks, target) {
-        Ok(counts) => Ok((counts.states, counts.arrows)),
-        Err(why) => Err(why.number()),
-    }
+    let counts = book.reduce(&StyleMarks, target).map_err(Refusal::number)?;
+    Ok((counts.states, counts.arrows))
 }

@@ -3,7 +3,6 @@
 use crate::calls::*;
 use automata::Mark;
 use rulebook::Book;
-use std::test::Fail;
 
 #[test]
 fn the_256th_state_is_number_255_and_the_next_is_declined_with_1(rt: HostRuntime) {
@@ -55,7 +54,7 @@ fn arrows_after_a_struck_one_move_down(rt: HostRuntime) {
 }
 
 #[test]
-fn re_mark_answers_the_old_mark(rt: HostRuntime) -> Result<(), Fail> {
+fn re_mark_answers_the_old_mark(rt: HostRuntime) {
     let mut none = [BLANK; 0];
     let mut book = Book::new(&mut none, 7);
     let ticket = open(&mut book);
@@ -63,14 +62,9 @@ fn re_mark_answers_the_old_mark(rt: HostRuntime) -> Result<(), Fail> {
     let first = re_mark(&mut book, &ticket, 0, Mark::Accepting);
     let second = re_mark(&mut book, &ticket, 0, Mark::Neither);
     settle(&mut book, ticket);
-    let old = first?;
-    assert!(rt; old.is_initial() && !old.is_accepting());
-    let old = second?;
-    assert!(rt; !old.is_initial() && old.is_accepting());
-    let marks = book.marks();
-    assert!(rt; marks.len() == 1);
-    assert!(rt; !marks[0].is_initial() && !marks[0].is_accepting());
-    Ok(())
+    assert_eq!(rt; first, Ok(Mark::Initial));
+    assert_eq!(rt; second, Ok(Mark::Accepting));
+    assert_eq!(rt; book.marks(), [Mark::Neither].as_slice());
 }
 
 #[test]

@@ -6,14 +6,6 @@ use labels::StyleMarks;
 use rulebook::{Book, Refusal};
 use std::test::Fail;
 
-// The number of the refusal, or 0.
-fn number_of(marked: Result<Mark, u8>) -> u8 {
-    match marked {
-        Ok(_) => 0,
-        Err(number) => number,
-    }
-}
-
 #[test]
 fn refusals_have_the_numbers_1_to_9(rt: HostRuntime) {
     let all = [
@@ -27,59 +19,55 @@ fn refusals_have_the_numbers_1_to_9(rt: HostRuntime) {
         Refusal::ForeignTicket,
         Refusal::TargetTaken,
     ];
-    for i in 0..9 {
-        assert_eq!(rt; all[i].number() as usize, i + 1);
+    for (i, refusal) in all.iter().enumerate() {
+        assert_eq!(rt; usize::from(refusal.number()), i + 1);
     }
+}
+
+// What a settled book with the number `own` answers to each edit and to settle, under the ticket of another book.
+fn under_the_ticket_of(
+    own: u32,
+    others: u32,
+) -> (
+    Result<u16, u8>,
+    Result<Mark, u8>,
+    Result<usize, u8>,
+    Result<(), u8>,
+    Result<usize, u8>,
+) {
+    let mut none = [BLANK; 0];
+    let mut book = Book::new(&mut none, own);
+    let mut rest = [BLANK; 0];
+    let mut other = Book::new(&mut rest, others);
+    let ticket = open(&mut other);
+    let state = add_state(&mut book, &ticket, Mark::Both);
+    let marked = re_mark(&mut book, &ticket, 9, Mark::Both);
+    let arrow = add_arrow(&mut book, &ticket, 9, 0, 9);
+    let struck = strike(&mut book, &ticket, 9);
+    let settled = match book.settle(&StyleMarks, ticket) {
+        Ok(pairs) => Ok(pairs),
+        Err((why, ticket)) => {
+            settle(&mut other, ticket);
+            Err(why.number())
+        }
+    };
+    (state, marked, arrow, struck, settled)
 }
 
 #[test]
 fn a_foreign_ticket_is_declined_with_8_before_anything_else(rt: HostRuntime) {
-    let mut none = [BLANK; 0];
-    let mut book = Book::new(&mut none, 1);
-    let mut rest = [BLANK; 0];
-    let mut other = Book::new(&mut rest, 2);
-    let ticket = open(&mut other);
-    let state = add_state(&mut book, &ticket, Mark::Both);
-    let marked = re_mark(&mut book, &ticket, 9, Mark::Both);
-    let arrow = add_arrow(&mut book, &ticket, 9, 0, 9);
-    let struck = strike(&mut book, &ticket, 9);
-    let settled = match book.settle(&StyleMarks, ticket) {
-        Ok(_) => 0,
-        Err((why, ticket)) => {
-            settle(&mut other, ticket);
-            why.number()
-        }
-    };
-    assert_eq!(rt; state, Err(8));
-    assert_eq!(rt; number_of(marked), 8);
-    assert_eq!(rt; arrow, Err(8));
-    assert_eq!(rt; struck, Err(8));
-    assert_eq!(rt; settled, 8);
+    assert_eq!(rt;
+        under_the_ticket_of(1, 2),
+        (Err(8), Err(8), Err(8), Err(8), Err(8))
+    );
 }
 
 #[test]
 fn a_settled_book_declines_edits_with_7(rt: HostRuntime) {
-    let mut none = [BLANK; 0];
-    let mut book = Book::new(&mut none, 5);
-    let mut rest = [BLANK; 0];
-    let mut other = Book::new(&mut rest, 5);
-    let ticket = open(&mut other);
-    let state = add_state(&mut book, &ticket, Mark::Both);
-    let marked = re_mark(&mut book, &ticket, 9, Mark::Both);
-    let arrow = add_arrow(&mut book, &ticket, 9, 0, 9);
-    let struck = strike(&mut book, &ticket, 9);
-    let settled = match book.settle(&StyleMarks, ticket) {
-        Ok(_) => 0,
-        Err((why, ticket)) => {
-            settle(&mut other, ticket);
-            why.number()
-        }
-    };
-    assert_eq!(rt; state, Err(7));
-    assert_eq!(rt; number_of(marked), 7);
-    assert_eq!(rt; arrow, Err(7));
-    assert_eq!(rt; struck, Err(7));
-    assert_eq!(rt; settled, 7);
+    assert_eq!(rt;
+        under_the_ticket_of(5, 5),
+        (Err(7), Err(7), Err(7), Err(7), Err(7))
+    );
 }
 
 #[test]
@@ -105,12 +93,9 @@ fn a_book_is_not_opened_twice(rt: HostRuntime) {
     let mut none = [BLANK; 0];
     let mut book = Book::new(&mut none, 5);
     let ticket = open(&mut book);
-    let again = match book.open() {
-        Ok(_) => unreachable(),
-        Err(why) => why.number(),
-    };
+    let again = book.open().unwrap_err();
     settle(&mut book, ticket);
-    assert_eq!(rt; again, 6);
+    assert_eq!(rt; again.number(), 6);
 }
 
 #[test]
@@ -136,7 +121,7 @@ fn what_is_not_there_is_declined_with_2_or_5(rt: HostRuntime) {
     let marked = re_mark(&mut book, &ticket, 0, Mark::Both);
     let struck = strike(&mut book, &ticket, 0);
     settle(&mut book, ticket);
-    assert_eq!(rt; number_of(marked), 2);
+    assert_eq!(rt; marked, Err(2));
     assert_eq!(rt; struck, Err(5));
     assert_eq!(rt; ask(&book, 0, 0), Err(2));
 }

@@ -1,5 +1,5 @@
 -- The fields of a line are read as what the line says.
-use Rattle.std.proofs.Common.{◌≡◌, ℕ, ◌+◌, ◌^◌, ◌<◌, ◌≤◌, true, cond, ◌&&◌, leb, List, [], ◌∷◌, ◌++◌, map, length, get_or, Some, None, Ok, Err, codes, decimal, Option, Result, sym, refl, ap, ◌∙◌, ap₂, arith, length-append, rules}
+use Rattle.std.proofs.Common.{◌≡◌, ℕ, ◌+◌, ◌^◌, ◌<◌, ◌≤◌, true, cond, ◌&&◌, leb, List, [], ◌∷◌, ◌++◌, map, length, get_or, Some, None, Ok, Err, codes, decimal, Option, Result, refl, ap, ◌∙◌, ap₂, arith, length-append, rules}
 use Rattle.std.specs.Option.{option_map, ok_or}
 use Rattle.std.specs.List.{flat_map, AllByRecursion}
 use Rattle.std.proofs.ByRecursion.{All-append, All-weaker}
@@ -13,18 +13,20 @@ use Rattle.lines.specs.Numbers.{number_in}
 use Rattle.lines.specs.declared.Fault.{Fault}
 use Rattle.lines.specs.declared.Fault.TheVariants as fault
 use Rattle.lines.specs.declared.Place.{Place}
-use Rattle.lines.proofs.Fields.{fields_joined}
+use Rattle.lines.proofs.Parts.{fields_joined}
 use Rattle.lines.proofs.Numbers.{number_in_decimal, free_decimal}
 use Rattle.written.specs.Texts.{Plain, reads_whole}
 use Rattle.written.specs.declared.Reading.{Reading}
-use Rattle.written.specs.Codecs.{whole_some}
-use Rattle.label_list.specs.Lists.{further}
+use Rattle.label_list.specs.Lists.{label_at}
+use Rattle.lines.specs.Places.{further, place_of}
+use Rattle.lines.specs.Texts.{and_then, over}
+use Rattle.label_list.proofs.Law.{whole_back}
 use Rattle.script.specs.declared.verbs.Verb.{Verb}
 use Rattle.script.specs.declared.verbs.Verb.TheVariants as verb
 use Rattle.script.specs.declared.verbs.Kind.{Kind}
 use Rattle.script.specs.declared.verbs.Kind.TheVariants as kind
 use Rattle.script.specs.Lines.{Stated, Line, Symbol, opens, adds, marks, links, strikes, settles, asks, copies, reduces, calls, tests, FitsTicket, FitsCall, FitsSymbol, Fits, mark_text, ticket_fields, call_fields, symbol_text, line_fields, by_commas, line_text}
-use Rattle.script.specs.Reads.{and_then, over, place_of, number_at, ticket_said_at, mark_in, mark_at_place, label_at, symbol_in, symbols_say, kind_of_word, least, edits, takes, verb_says, kind_says, by_kind, line_says}
+use Rattle.script.specs.Reads.{number_at, ticket_said_at, mark_in, mark_at_place, symbol_in, symbols_say, kind_of_word, least, edits, takes, verb_says, kind_says, by_kind, line_says}
 
 -- numbers, marks, symbols
 number_at_back : (most : ℕ) (at : Place) (fs : List (List ℕ)) (k n : ℕ) → most < 2 ^ 64 → get_or fs k [] ≡ decimal n → n ≤ most → number_at most at fs k ≡ Ok n
@@ -32,7 +34,6 @@ number_at_back most at fs k n small is h =
     ap (λ f. ok_or (number_in most f) (fault.Number (place_of at fs k))) is ∙ ap (λ o. ok_or o (fault.Number (place_of at fs k))) (number_in_decimal most n h (omega arith))
 
 mark_back : (m : Mark) → mark_in (mark_text m) ≡ Some m
-unfolding mark_in
 mark_back mark.Neither = refl
 mark_back mark.Initial = refl
 mark_back mark.Accepting = refl
@@ -129,8 +130,7 @@ module _ {P : Type 0} {Same : P → P → Type 0} (text : P → List ℕ) (reads
     (plain : (p : P) → Plain (text p)) where
   label_at_back : (at : Place) (fs : List (List ℕ)) (k : ℕ) (p : P) → get_or fs k [] ≡ text p → label_at reads at fs k ≡ Ok (back p []).0
   label_at_back at fs k p is =
-      let whole : Some (back p []).0 ≡ reads_whole reads (text p) = whole_some reads (text p) (record { predicate = (back p []).0; len = length (text p) }) (sym (ap reads (sym (append-nil (text p))) ∙ (back p []).1)) refl in
-      ap (λ f. ok_or (reads_whole reads f) (fault.Label (place_of at fs k))) is ∙ ap (λ o. ok_or o (fault.Label (place_of at fs k))) (sym whole)
+      ap (λ f. ok_or (reads_whole reads f) (fault.Label (place_of at fs k))) is ∙ ap (λ o. ok_or o (fault.Label (place_of at fs k))) (whole_back text reads back plain p)
 
   -- the call that is read of a stated call
   abbrev again : Stated P → Stated P

@@ -14,64 +14,35 @@ use Rattle.lines.specs.declared.Fault.{Fault}
 use Rattle.lines.specs.declared.Fault.TheVariants as fault
 use Rattle.lines.specs.declared.Place.{Place}
 use Rattle.lines.proofs.Numbers.{number_in_cases}
-use Rattle.written.specs.Texts.{whole_if, reads_whole}
 use Rattle.written.specs.declared.Reading.{Reading}
 use Rattle.label_list.proofs.Law.{text_from_whole}
-use Rattle.label_list.specs.Lists.{further}
+use Rattle.label_list.specs.Lists.{label_at}
+use Rattle.lines.specs.Places.{further}
+use Rattle.lines.specs.Texts.{over}
+use Rattle.lines.proofs.Parts.{shape_1, shape_2, shape_3, shape_4}
+use Rattle.lines.proofs.Results.{clash, failed, went, made_of, some_from_ok_or}
 use Rattle.script.specs.declared.verbs.Verb.{Verb}
 use Rattle.script.specs.declared.verbs.Verb.TheVariants as verb
 use Rattle.script.specs.declared.verbs.Kind.{Kind}
 use Rattle.script.specs.declared.verbs.Kind.TheVariants as kind
 use Rattle.script.specs.Lines.{Stated, Line, Symbol, opens, adds, marks, links, strikes, settles, asks, copies, reduces, calls, tests, FitsTicket, FitsCall, FitsSymbol, Fits, mark_text, ticket_fields, call_fields, symbol_text, line_fields}
-use Rattle.script.specs.Reads.{and_then, over, number_at, ticket_said_at, mark_in, mark_at_place, label_at, symbol_in, symbols_say, kind_of_word, least, edits, takes, behind_first, verb_says, kind_says, by_kind, line_says}
-
--- nothing is both
-pub clash : {X : Type 0} {Goal : Type 0} (o : Option X) (x : X) → o ≡ None → o ≡ Some x → Goal
-clash o x a b = let z : ◌≡◌ {A = ℕ} 0 1 = cc in absurd (omega arith)
-
-pub failed : {X Y : Type 0} {Goal : Type 0} (r : Result X Y) (x : X) (y : Y) → r ≡ Err y → r ≡ Ok x → Goal
-failed r x y a b = let z : ◌≡◌ {A = ℕ} 0 1 = cc in absurd (omega arith)
-
--- what an accepted result was made of
-pub record Went {X Y : Type 0} (r : Result X Fault) (more : X → Result Y Fault) (y : Y) : Type 0 where
-  pub first : X
-  pub was : r ≡ Ok first
-  pub so : more first ≡ Ok y
-
-pub went : {X Y : Type 0} (r : Result X Fault) (more : X → Result Y Fault) (y : Y) → and_then r more ≡ Ok y → Went r more y
-went (Ok x) more y e = record { first = x; was = refl; so = e }
-went (Err f) more y e = failed _ _ _ refl e
-
-pub record Made {X Y : Type 0} (r : Result X Fault) (made : X → Y) (y : Y) : Type 0 where
-  pub part : X
-  pub was : r ≡ Ok part
-  pub so : made part ≡ y
-
-pub made_of : {X Y : Type 0} (r : Result X Fault) (made : X → Y) (y : Y) → over made r ≡ Ok y → Made r made y
-made_of (Ok x) made y e = record { part = x; was = refl; so = cc }
-made_of (Err f) made y e = failed _ _ _ refl e
-
-some_from_ok_or : {X : Type 0} (o : Option X) (f : Fault) (x : X) → ok_or o f ≡ Ok x → o ≡ Some x
-some_from_ok_or None f x e = failed _ _ _ refl e
-some_from_ok_or (Some y) f x e = let same : y ≡ x = cc in ap Some same
+use Rattle.script.specs.Reads.{number_at, ticket_said_at, mark_in, mark_at_place, symbol_in, symbols_say, kind_of_word, least, edits, takes, verb_says, kind_says, by_kind, line_says}
 
 -- the fields
 number_exact : (most : ℕ) (field : List ℕ) (n : ℕ) → most < 2 ^ 64 → number_in most field ≡ Some n → (n ≤ most) × (field ≡ decimal n)
 number_exact most field n small e = number_in_cases most field (Some n) small (sym e)
 
-mark_exact : (field : List ℕ) (m : Mark) → mark_in field ≡ Some m → field ≡ mark_text m
-unfolding mark_in
-mark_exact [] m e = clash _ m refl e
-mark_exact (c ∷ d ∷ more) m e = clash _ m refl e
-mark_exact (c ∷ []) m e =
-    letter 110 mark.Neither _ (letter 105 mark.Initial _ (letter 97 mark.Accepting _ (letter 98 mark.Both _ (λ none. clash _ m refl none) refl) refl) refl) refl e
+-- the choice of one of several words
+pick : {X : Type 0} (text : X → List ℕ) (word : List ℕ) (chosen x : X) (more : Option X) → (more ≡ Some chosen → word ≡ text chosen) → cond (bytes_eq word (text x)) (Some x) more ≡ Some chosen → word ≡ text chosen
+pick text word chosen x more rest f = by (bytes_eq word (text x)) refl f
   where
-    letter : (b : ℕ) (x : Mark) (more : Option Mark) → (more ≡ Some m → c ∷ [] ≡ mark_text m) → b ∷ [] ≡ mark_text x → cond (eqb c b) (Some x) more ≡ Some m → c ∷ [] ≡ mark_text m
-    letter b x more rest is f = by (eqb c b) refl f
-      where
-        by : (t : Bool) → eqb c b ≡ t → cond t (Some x) more ≡ Some m → c ∷ [] ≡ mark_text m
-        by true t f = let same : x ≡ m = cc in ap (λ v. v ∷ []) (eqb-true c b t) ∙ is ∙ ap mark_text same
-        by false t f = rest f
+    by : (t : Bool) → bytes_eq word (text x) ≡ t → cond t (Some x) more ≡ Some chosen → word ≡ text chosen
+    by true t f = let same : x ≡ chosen = cc in (bytes_eq-Decides word (text x)).0 t ∙ ap text same
+    by false t f = rest f
+
+mark_exact : (field : List ℕ) (m : Mark) → mark_in field ≡ Some m → field ≡ mark_text m
+mark_exact field m e =
+    pick mark_text field m mark.Neither _ (pick mark_text field m mark.Initial _ (pick mark_text field m mark.Accepting _ (pick mark_text field m mark.Both _ (λ none. clash _ m refl none)))) e
 
 symbol_exact : (field : List ℕ) (s : Symbol) → symbol_in field ≡ Some s → (field ≡ symbol_text s) × FitsSymbol s
 unfolding symbol_in
@@ -130,40 +101,13 @@ kind_text (kind.Call v) = verb_text v
 kind_text kind.Word = codes "word"
 kind_text kind.End = codes "end"
 
-kind_exact : (word : List ℕ) (k : Kind) → kind_of_word word ≡ Some k → word ≡ kind_text k
+pub kind_exact : (word : List ℕ) (k : Kind) → kind_of_word word ≡ Some k → word ≡ kind_text k
 kind_exact word k e =
-    pick (kind.Call verb.Open) _ (pick (kind.Call verb.State) _ (pick (kind.Call verb.Mark) _ (pick (kind.Call verb.Arrow) _ (pick (kind.Call verb.Strike) _ (pick (kind.Call verb.Settle) _
-    (pick (kind.Call verb.Ask) _ (pick (kind.Call verb.Rows) _ (pick kind.Word _ (pick (kind.Call verb.Reduce) _ (pick kind.End _ (λ none. clash _ k refl none))))))))))) e
+    call verb.Open _ (call verb.State _ (call verb.Mark _ (call verb.Arrow _ (call verb.Strike _ (call verb.Settle _
+    (call verb.Ask _ (call verb.Rows _ (pick kind_text word k kind.Word _ (call verb.Reduce _ (pick kind_text word k kind.End _ (λ none. clash _ k refl none))))))))))) e
   where
-    pick : (x : Kind) (more : Option Kind) → (more ≡ Some k → word ≡ kind_text k) → cond (bytes_eq word (kind_text x)) (Some x) more ≡ Some k → word ≡ kind_text k
-    pick x more rest f = by (bytes_eq word (kind_text x)) refl f
-      where
-        by : (t : Bool) → bytes_eq word (kind_text x) ≡ t → cond t (Some x) more ≡ Some k → word ≡ kind_text k
-        by true t f = let same : x ≡ k = cc in (bytes_eq-Decides word (kind_text x)).0 t ∙ ap kind_text same
-        by false t f = rest f
-
--- fields by their places, where there are enough
-shape_1 : (fs : List (List ℕ)) → 1 ≤ length fs → fs ≡ get_or fs 0 [] ∷ drop 1 fs
-shape_1 [] h = absurd (omega arith)
-shape_1 (a ∷ fs) h = refl
-
-shape_2 : (fs : List (List ℕ)) → 2 ≤ length fs → fs ≡ get_or fs 0 [] ∷ get_or fs 1 [] ∷ drop 2 fs
-shape_2 [] h = absurd (omega arith)
-shape_2 (a ∷ []) h = absurd (omega arith)
-shape_2 (a ∷ b ∷ fs) h = refl
-
-shape_3 : (fs : List (List ℕ)) → 3 ≤ length fs → fs ≡ get_or fs 0 [] ∷ get_or fs 1 [] ∷ get_or fs 2 [] ∷ drop 3 fs
-shape_3 [] h = absurd (omega arith)
-shape_3 (a ∷ []) h = absurd (omega arith)
-shape_3 (a ∷ b ∷ []) h = absurd (omega arith)
-shape_3 (a ∷ b ∷ c ∷ fs) h = refl
-
-shape_4 : (fs : List (List ℕ)) → 4 ≤ length fs → fs ≡ get_or fs 0 [] ∷ get_or fs 1 [] ∷ get_or fs 2 [] ∷ get_or fs 3 [] ∷ drop 4 fs
-shape_4 [] h = absurd (omega arith)
-shape_4 (a ∷ []) h = absurd (omega arith)
-shape_4 (a ∷ b ∷ []) h = absurd (omega arith)
-shape_4 (a ∷ b ∷ c ∷ []) h = absurd (omega arith)
-shape_4 (a ∷ b ∷ c ∷ d ∷ fs) h = refl
+    call : (v : Verb) (more : Option Kind) → (more ≡ Some k → word ≡ kind_text k) → cond (bytes_eq word (verb_text v)) (Some (kind.Call v)) more ≡ Some k → word ≡ kind_text k
+    call v = pick kind_text word k (kind.Call v)
 
 -- a ticket, or nothing, is all that may follow
 ticket_exact : (at : Place) (fs : List (List ℕ)) (k : ℕ) (t : Option ℕ) → length fs ≤ k + 1 → ticket_said_at at fs k ≡ Ok t → (drop k fs ≡ ticket_fields t) × FitsTicket t
@@ -288,14 +232,10 @@ module _ {P : Type 0} (text : P → List ℕ) (reads : List ℕ → Option (Read
             let c = made_of (verb_says reads at fs v) (λ s. Some (calls s)) said f in
             subst Says c.so (verb_exact v c.part count word c.was)
         by_says kind.Word word count f =
-            let w = made_of (symbols_say (further at 5) (behind_first fs)) (λ s. Some (tests s)) said f in
-            let exact = symbols_exact (further at 5) (behind_first fs) w.part w.was in
-            let whole : fs ≡ codes "word" ∷ map symbol_text w.part = behind fs some ∙ cc exact.0 in
+            let w = made_of (symbols_say (further at 5) (drop 1 fs)) (λ s. Some (tests s)) said f in
+            let exact = symbols_exact (further at 5) (drop 1 fs) w.part w.was in
+            let whole : fs ≡ codes "word" ∷ map symbol_text w.part = cc (shape_1 fs some, exact.0) in
             subst Says w.so (whole, exact.1)
-          where
-            behind : (gs : List (List ℕ)) → 1 ≤ length gs → gs ≡ get_or gs 0 [] ∷ behind_first gs
-            behind [] h = absurd (omega arith)
-            behind (g ∷ gs) h = refl
         by_says kind.End word count f =
             let same : None ≡ said = cc in
             let one = eqb-true (length fs) 1 count in

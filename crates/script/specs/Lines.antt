@@ -6,6 +6,7 @@ use Rattle.automata.specs.declared.Mark.{Mark}
 use Rattle.automata.specs.declared.Mark.TheVariants as mark
 use Rattle.labels.specs.declared.sum.Either.{Either}
 use Rattle.labels.specs.declared.sum.Either.TheVariants.{Left, Right}
+use Rattle.lines.specs.Texts as lines
 use Rattle.histories.specs.declared.calls.Call.{Call}
 use Rattle.histories.specs.declared.calls.Call.TheVariants as call
 
@@ -93,8 +94,8 @@ abbrev pub line_text : {P : Type 0} → (P → List ℕ) → Line P → List ℕ
 line_text text x = by_commas (line_fields text x)
 
 -- a line each, and the end
-unfoldable pub lines_text : {P : Type 0} → (P → List ℕ) → List (Line P) → List ℕ
-lines_text text lines = flat_map (λ x. line_text text x ++ (10 ∷ [])) lines ++ (codes "end" ++ (10 ∷ []))
+abbrev pub lines_text : {P : Type 0} → (P → List ℕ) → List (Line P) → List ℕ
+lines_text text xs = lines.lines_text (line_text text) xs
 
 -- the call that is stated
 abbrev pub own : Option ℕ → ℕ

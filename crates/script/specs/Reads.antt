@@ -1,63 +1,39 @@
 -- What a line of a script says, by its fields, or its first fault.
-use Rattle.std.specs.Prelude.{ℕ, zero, suc, ◌+◌, Bool, true, false, cond, ◌&&◌, List, [], ◌∷◌, length, Some, None, Ok, Err, codes, Option, Result, ◌==◌, nat_le, slice_index_or}
+use Rattle.std.specs.Prelude.{ℕ, ◌+◌, Bool, true, false, cond, ◌&&◌, List, [], ◌∷◌, length, Some, None, Ok, Err, codes, Option, Result, ◌==◌, nat_le, slice_index_or, drop}
 use Rattle.std.specs.Option.{option_map, ok_or}
 use Rattle.std.specs.Str.{bytes_eq}
 use Rattle.automata.specs.declared.Mark.{Mark}
 use Rattle.automata.specs.declared.Mark.TheVariants as mark
 use Rattle.labels.specs.declared.sum.Either.TheVariants.{Left, Right}
 use Rattle.lines.specs.Numbers.{number_in}
+use Rattle.lines.specs.Places.{further, place_of}
+use Rattle.lines.specs.Texts.{and_then, over}
 use Rattle.lines.specs.declared.Fault.{Fault}
 use Rattle.lines.specs.declared.Fault.TheVariants as fault
 use Rattle.lines.specs.declared.Place.{Place}
-use Rattle.written.specs.Texts.{reads_whole}
 use Rattle.written.specs.declared.Reading.{Reading}
-use Rattle.label_list.specs.Lists.{further}
+use Rattle.label_list.specs.Lists.{label_at}
 use Rattle.script.specs.declared.verbs.Verb.{Verb}
 use Rattle.script.specs.declared.verbs.Verb.TheVariants as verb
 use Rattle.script.specs.declared.verbs.Kind.{Kind}
 use Rattle.script.specs.declared.verbs.Kind.TheVariants as kind
 use Rattle.script.specs.Lines.{Stated, Line, Symbol, opens, adds, marks, links, strikes, settles, asks, copies, reduces, calls, tests}
 
--- what is read next, if there was no fault
-abbrev pub and_then : {X Y : Type 0} → Result X Fault → (X → Result Y Fault) → Result Y Fault
-and_then (Ok x) more = more x
-and_then (Err f) more = Err f
-
-abbrev pub over : {X Y : Type 0} → (X → Y) → Result X Fault → Result Y Fault
-over made (Ok x) = Ok (made x)
-over made (Err f) = Err f
-
--- how many bytes of a line stand before the field behind k commas
-unfoldable pub offset_of : List (List ℕ) → ℕ → ℕ
-offset_of [] k = 0
-offset_of (f ∷ fs) zero = 0
-offset_of (f ∷ fs) (suc k) = length f + 1 + offset_of fs k
-
-abbrev pub place_of : Place → List (List ℕ) → ℕ → Place
-place_of at fs k = further at (offset_of fs k)
-
--- the field behind k commas, as a number, a ticket that may be left out, a mark, a label
+-- the field behind k commas, as a number, a ticket that may be left out, a mark
 abbrev pub number_at : ℕ → Place → List (List ℕ) → ℕ → Result ℕ Fault
 number_at most at fs k = ok_or (number_in most (slice_index_or fs k [])) (fault.Number (place_of at fs k))
 
 abbrev pub ticket_said_at : Place → List (List ℕ) → ℕ → Result (Option ℕ) Fault
 ticket_said_at at fs k = cond (nat_le (length fs) k) (Ok None) (over Some (number_at 4294967295 at fs k))
 
-abbrev pub mark_of_letter : ℕ → Option Mark
-mark_of_letter c =
-    cond (c == 110) (Some mark.Neither)
-    (cond (c == 105) (Some mark.Initial) (cond (c == 97) (Some mark.Accepting) (cond (c == 98) (Some mark.Both) None)))
-
-unfoldable pub mark_in : List ℕ → Option Mark
-mark_in [] = None
-mark_in (c ∷ []) = mark_of_letter c
-mark_in (c ∷ d ∷ more) = None
+abbrev pub mark_in : List ℕ → Option Mark
+mark_in field =
+    cond (bytes_eq field (codes "n")) (Some mark.Neither)
+    (cond (bytes_eq field (codes "i")) (Some mark.Initial)
+    (cond (bytes_eq field (codes "a")) (Some mark.Accepting) (cond (bytes_eq field (codes "b")) (Some mark.Both) None)))
 
 abbrev pub mark_at_place : Place → List (List ℕ) → ℕ → Result Mark Fault
 mark_at_place at fs k = ok_or (mark_in (slice_index_or fs k [])) (fault.Number (place_of at fs k))
-
-abbrev pub label_at : {P : Type 0} → (List ℕ → Option (Reading P)) → Place → List (List ℕ) → ℕ → Result P Fault
-label_at reads at fs k = ok_or (reads_whole reads (slice_index_or fs k [])) (fault.Label (place_of at fs k))
 
 -- a symbol: `m` or `c`, and a number
 abbrev pub symbol_of_letter : ℕ → List ℕ → Option Symbol
@@ -146,14 +122,10 @@ verb_says reads at fs verb.Ask = ask_says at fs
 verb_says reads at fs verb.Rows = Ok copies
 verb_says reads at fs verb.Reduce = Ok reduces
 
-abbrev pub behind_first : List (List ℕ) → List (List ℕ)
-behind_first [] = []
-behind_first (f ∷ fs) = fs
-
 -- a line, or nothing at the end
 abbrev pub kind_says : {P : Type 0} → (List ℕ → Option (Reading P)) → Place → List (List ℕ) → Kind → Result (Option (Line P)) Fault
 kind_says reads at fs (kind.Call v) = over (λ c. Some (calls c)) (verb_says reads at fs v)
-kind_says reads at fs kind.Word = over (λ w. Some (tests w)) (symbols_say (further at 5) (behind_first fs))
+kind_says reads at fs kind.Word = over (λ w. Some (tests w)) (symbols_say (further at 5) (drop 1 fs))
 kind_says reads at fs kind.End = Ok None
 
 -- the first field, then the count of fields, then the fields

@@ -1,37 +1,17 @@
 -- What a whole text says, or its first fault.
-use Rattle.std.specs.Prelude.{◌≡◌, ℕ, ◌+◌, List, [], ◌∷◌, ◌++◌, length, Some, None, Ok, Err, Option, Result, ◌≢◌}
+use Rattle.std.specs.Prelude.{◌≡◌, ℕ, ◌+◌, List, [], ◌++◌, length, Some, None, Ok, Option, Result, ◌≢◌}
 use Rattle.std.specs.List.{AllByRecursion}
 use Rattle.labels.specs.Segments.{Rising}
 use Rattle.labels.specs.declared.sum.Both.{Both}
-use Rattle.lines.specs.Fields.{fields, split}
+use Rattle.lines.specs.Texts.{over, lines_say}
 use Rattle.lines.specs.declared.Fault.{Fault}
-use Rattle.lines.specs.declared.Fault.TheVariants as fault
 use Rattle.lines.specs.declared.Place.{Place}
-use Rattle.header.specs.CutLine.{cut_line_text, cut_line}
-use Rattle.written.specs.declared.Reading.{Reading}
+use Rattle.header.specs.Behind.{with_cuts, text_with_cuts}
 use Rattle.histories.specs.declared.calls.Call.{Call}
 use Rattle.histories.specs.declared.calls.Call.TheVariants as call
-use Rattle.label_list.specs.Lists.{further, next, styled_reads, styled_text}
+use Rattle.label_list.specs.Lists.{styled_reads, styled_text}
 use Rattle.script.specs.Lines.{Line, Symbol, Fits, lines_text, line_call, line_symbols, calls_of, symbols_of}
-use Rattle.script.specs.Reads.{and_then, over, line_says}
-
--- nothing may stand behind the end
-abbrev pub closes : {P : Type 0} → Place → List (List ℕ) → List ℕ → Result (List (Line P)) Fault
-closes at [] [] = Ok []
-closes at [] (b ∷ bytes) = Err (fault.Stop at)
-closes at (line ∷ lines) rest = Err (fault.Stop at)
-
--- what the lines from a place on say; `rest` stands behind the last byte 10
-unfoldable pub lines_say : {P : Type 0} → (List ℕ → Option (Reading P)) → Place → List (List ℕ) → List ℕ → Result (List (Line P)) Fault
-lines_say reads at [] rest = Err (fault.Stop (further at (length rest)))
-lines_say reads at (line ∷ lines) rest = and_then (line_says reads at (fields line)) (λ said. elim said [
-  | Some x ↦ over (λ xs. x ∷ xs) (lines_say reads (next at line) lines rest)
-  | None ↦ closes (next at line) lines rest
-])
-
--- the same of a text that begins at a place
-abbrev pub text_says : {P : Type 0} → (List ℕ → Option (Reading P)) → Place → List ℕ → Result (List (Line P)) Fault
-text_says reads at text = lines_say reads at (split text).whole (split text).rest
+use Rattle.script.specs.Reads.{line_says}
 
 -- the calls, and the symbols of all words, one after another
 pub record Told (P : Type 0) : Type 0 where
@@ -46,16 +26,12 @@ pub record Scripted : Type 0 where
   pub cuts : List ℕ
   pub told : Told (Both ℕ ℕ)
 
-abbrev pub behind_cuts : Place → List (List ℕ) → List ℕ → List ℕ → Result Scripted Fault
-behind_cuts at lines rest cuts = over (λ xs. record { cuts = cuts; told = told [] [] xs }) (lines_say (styled_reads cuts) at lines rest)
-
-abbrev pub script_by : List (List ℕ) → List ℕ → Result Scripted Fault
-script_by [] rest = Err (fault.Stop (record { line = 1; offset = length rest }))
-script_by (line ∷ lines) rest = and_then (cut_line line) (behind_cuts (record { line = 2; offset = length line + 1 }) lines rest)
-
 -- what a text says, or its first fault
-unfoldable pub script_says : List ℕ → Result Scripted Fault
-script_says text = script_by (split text).whole (split text).rest
+abbrev pub behind_cuts : List ℕ → Place → List (List ℕ) → List ℕ → Result Scripted Fault
+behind_cuts cuts at lines rest = over (λ xs. record { cuts = cuts; told = told [] [] xs }) (lines_say (line_says (styled_reads cuts)) at lines rest)
+
+abbrev pub script_says : List ℕ → Result Scripted Fault
+script_says text = with_cuts behind_cuts text
 
 -- the symbols of a word are added behind those before it, and the call names their part
 pub record WordRead {P : Type 0} (says : Result (List Symbol) Fault) (before : List Symbol) (made : Call P) (after : List Symbol) : Type 0 where
@@ -93,7 +69,7 @@ NoLines {P = P} text bytes = (lines : List (Line P)) → AllByRecursion Fits lin
 
 -- the text of a script
 abbrev pub script_text : List ℕ → List (Line (Both ℕ ℕ)) → List ℕ
-script_text cuts lines = cut_line_text cuts ++ (10 ∷ lines_text (styled_text cuts) lines)
+script_text cuts lines = text_with_cuts (λ cs xs. lines_text (styled_text cs) xs) cuts lines
 
 -- a text of a script, and its calls and symbols
 pub record IsScript (text cuts : List ℕ) (t : Told (Both ℕ ℕ)) : Type 0 where

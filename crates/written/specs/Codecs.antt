@@ -1,15 +1,16 @@
 -- Words and pairs as texts: what is written is read, and what is read was written.
-use Rattle.std.specs.Prelude.{◌≡◌, ℕ, zero, suc, ◌+◌, ◌-◌, ◌*◌, ◌/◌, ◌%◌, ◌^◌, ◌<◌, ◌≤◌, min, Bool, true, false, ◌&&◌, cond, ltb, List, [], ◌++◌, length, take, drop, Some, None, Option, ◌≢◌, nat_lt, refl}
+use Rattle.std.specs.Prelude.{◌≡◌, ℕ, zero, suc, ◌+◌, ◌-◌, ◌*◌, ◌/◌, ◌%◌, ◌^◌, ◌<◌, ◌≤◌, min, Bool, true, false, ◌&&◌, List, [], ◌++◌, length, take, drop, cond, Some, None, Option, MatchOption, ◌==◌, ◌≢◌, nat_lt, option_and_then, refl}
+use Rattle.std.specs.Bool.{then_some}
 use Rattle.std.proofs.Common.{sym, ap, ap₂, subst, ◌∙◌, inl, inr, mod-eq_of_lt, le_trans, arith, pow_mono, pow_pos}
 use Rattle.std.proofs.lemmas.Nat.{mod_below}
 use Rattle.std.proofs.lemmas.List.{append_assoc, append-nil, length-append, length-drop, drop_all, drop_at, drop-drop, take_all, take_at, take_rest}
 use Rattle.std.proofs.lemmas.Slice.{put_mid-paste}
 use borrow.Rule.Slice.PartMut.{put_mid}
-use Rattle.std.proofs.lemmas.Bool.{cases_lt, eq-eqb, le-ltb, lt-ltb, ltb-true, ne_eqb}
+use Rattle.std.proofs.lemmas.Bool.{cases_lt, eq-eqb, le-ltb, lt-ltb, ltb-true, ne_eqb, eqb-true, true≢false}
 use Rattle.std.proofs.lemmas.Bool.Decides.{nat_tests}
 use Rattle.bits.proofs.Words.{bit_mod}
 use Rattle.labels.specs.declared.cuts.Cuts.{Cuts}
-use Rattle.labels.specs.CutLists.{cuts_of}
+use Rattle.labels.specs.CutLists.{cuts_of, segment_count, real_bits}
 use Rattle.labels.specs.Segments.{is_point, segment, point_holds}
 use Rattle.labels.specs.SegmentsLemmas.{segment_le}
 use Rattle.labels.specs.CutListsLemmas.{cuts_rising}
@@ -45,19 +46,34 @@ low_back n p rest h =
     word_back (2 ^ n) (p % 2 ^ n) rest (omega arith) ∙ ap (λ w. Some (record { predicate = w; len = length (hexes 16 (p % 2 ^ n)) })) same
 
 -- the text of a predicate on code points is read back as its low bits, which hold of the same code points
-pub points_back : (c : Cuts) (p : ℕ) (rest : List ℕ) → let n : ℕ = length (cuts_of c) + 1 in
-    reads_word (2 ^ n) (hex_read 16 0 (hexes 16 (p % 2 ^ n) ++ rest)) ≡ Some (record { predicate = p % 2 ^ n; len = length (hexes 16 (p % 2 ^ n)) })
-points_back c p rest = low_back (length (cuts_of c) + 1) p rest (omega (arith, (cuts_rising c).few))
+pub points_back : (c : Cuts) (p : ℕ) (rest : List ℕ)
+    → reads_word (2 ^ segment_count c) (hex_read 16 0 (hexes 16 (real_bits c p) ++ rest)) ≡ Some (record { predicate = real_bits c p; len = length (hexes 16 (real_bits c p)) })
+points_back c p rest = low_back (segment_count c) p rest (omega (arith, (cuts_rising c).few))
 
-pub points_low : (c : Cuts) (p v : ℕ) → point_holds (cuts_of c) (p % 2 ^ (length (cuts_of c) + 1)) v ≡ point_holds (cuts_of c) p v
+pub points_low : (c : Cuts) (p v : ℕ) → point_holds (cuts_of c) (real_bits c p) v ≡ point_holds (cuts_of c) p v
 points_low c p v =
     let cuts = cuts_of c in
-    ap (λ t. is_point v && t) (bit_mod (length cuts + 1) p (segment cuts v) (omega (arith, segment_le cuts v)))
+    ap (λ t. is_point v && t) (bit_mod (segment_count c) p (segment cuts v) (omega (arith, segment_le cuts v)))
 
-pub word_refused : (n word : ℕ) (bytes : List ℕ) → Some word ≡ hex_read 16 0 bytes → (word % 2 ^ n ≢ word) → None ≡ reads_word (2 ^ n) (hex_read 16 0 bytes)
-word_refused n word bytes is ne =
-    let large : ltb word (2 ^ n) ≡ false = elim (cases_lt word (2 ^ n)) [ inl l ↦ absurd (ne (mod-eq_of_lt l)) | inr g ↦ le-ltb word (2 ^ n) g ] in
-    ap (λ t. cond t (Some (record { predicate = word; len = 16 })) None) (sym large) ∙ ap (reads_word (2 ^ n)) is
+-- a word is below 2 ^ n exactly when its low n bits are all of it
+low_test : (n word : ℕ) → nat_lt word (2 ^ n) ≡ (word % 2 ^ n == word)
+low_test n word = elim (cases_lt word (2 ^ n)) [
+  | inl l ↦ lt-ltb word (2 ^ n) l ∙ sym (eq-eqb (word % 2 ^ n) word (mod-eq_of_lt l))
+  | inr g ↦ le-ltb word (2 ^ n) g ∙ sym (ne_eqb (word % 2 ^ n) word (λ e. omega (arith, e, g, mod_below word (2 ^ n) (pow_pos n))))
+]
+
+-- so a lower limit reads what passes that test
+pub reads_low : (n : ℕ) (o : Option ℕ) (r : Option (Reading ℕ)) → n ≤ 64 → r ≡ reads_word (2 ^ 64) o
+    → reads_word (2 ^ n) o ≡ option_and_then (λ got. then_some (got.predicate % 2 ^ n == got.predicate) got) r
+reads_low n None r h e = rw e refl
+reads_low n (Some word) r h e =
+    let got : Reading ℕ = record { predicate = word; len = 16 } in
+    elim (cases_lt word (2 ^ 64)) [
+      | inl l ↦ rw e (rw (lt-ltb word (2 ^ 64) l) (ap (λ t. then_some t got) (low_test n word)))
+      | inr g ↦
+          let top : 2 ^ n ≤ 2 ^ 64 = pow_mono h in
+          rw e (rw (le-ltb word (2 ^ 64) g) (ap (λ t. then_some t got) (le-ltb word (2 ^ n) (omega arith))))
+    ]
 
 -- a number that was read
 pub record Word (limit : ℕ) (bytes : List ℕ) (got : Reading ℕ) : Type 0 where
@@ -68,7 +84,7 @@ pub record Word (limit : ℕ) (bytes : List ℕ) (got : Reading ℕ) : Type 0 wh
 pub word_exact : (limit : ℕ) (bytes : List ℕ) (got : Reading ℕ) → reads_word limit (hex_read 16 0 bytes) ≡ Some got → Word limit bytes got
 word_exact limit bytes got e = by (hex_read 16 0 bytes) refl e
   where
-    made : (word : ℕ) → hex_read 16 0 bytes ≡ Some word → (t : Bool) → nat_lt word limit ≡ t → cond t (Some (record { predicate = word; len = 16 })) None ≡ Some got → Word limit bytes got
+    made : (word : ℕ) → hex_read 16 0 bytes ≡ Some word → (t : Bool) → nat_lt word limit ≡ t → then_some t (record { predicate = word; len = 16 }) ≡ Some got → Word limit bytes got
     made word is false small f = let z : ◌≡◌ {A = ℕ} 0 1 = cc in absurd (omega arith)
     made word is true small f =
         let same : record { predicate = word; len = 16 } ≡ got = cc in
@@ -181,12 +197,7 @@ wrote_both was mid last a b n m k room same la ea is lb eb =
 -- a field that is a text and nothing else
 module _ {P : Type 0} (reads : List ℕ → Option (Reading P)) (field : List ℕ) where
   pub whole_some : (got : Reading P) → Some got ≡ reads field → got.len ≡ length field → Some got.predicate ≡ reads_whole reads field
-  whole_some got is e =
-      ap (λ t. cond t (Some got.predicate) None) (sym (eq-eqb got.len (length field) e)) ∙ ap (whole_if (length field)) is
-
-  pub whole_other : (got : Reading P) → Some got ≡ reads field → (got.len ≢ length field) → None ≡ reads_whole reads field
-  whole_other got is ne =
-      ap (λ t. cond t (Some got.predicate) None) (sym (ne_eqb got.len (length field) ne)) ∙ ap (whole_if (length field)) is
+  whole_some got is e = ap (λ t. cond t (Some got.predicate) None) (sym (eq-eqb got.len (length field) e)) ∙ ap (whole_if (length field)) is
 
   pub whole_text : (text : List ℕ) (n : ℕ) → n ≡ length field → field ≡ text ++ drop n field → field ≡ text
   whole_text text n e is = is ∙ ap (λ bs. text ++ bs) (drop_all n field (omega arith)) ∙ append-nil text
@@ -196,3 +207,19 @@ module _ {P : Type 0} (reads : List ℕ → Option (Reading P)) (field : List �
       let same : Some got ≡ Some (record { predicate = q; len = length text }) = is ∙ ap reads (e ∙ sym (append-nil text)) ∙ back in
       let lens : got.len ≡ length text = cc in
       lens ∙ ap length (sym e)
+
+  pub whole_test : (got : Reading P) → Some got ≡ reads field → then_some (got.len == length field) got.predicate ≡ reads_whole reads field
+  whole_test got is = by (got.len == length field) ∙ ap (whole_if (length field)) is
+    where
+      by : (t : Bool) → then_some t got.predicate ≡ cond t (Some got.predicate) None
+      by true = refl
+      by false = refl
+
+  -- what was read is the whole field, or the field is no text
+  pub whole_cases : (text : P → List ℕ) (got : Reading P) → field ≡ text got.predicate ++ drop got.len field → ((p : P) → field ≡ text p → got.len ≡ length field)
+      → MatchOption (then_some (got.len == length field) got.predicate) ((p : P) → field ≢ text p) (λ p. field ≡ text p)
+  whole_cases text got front all = by (got.len == length field) refl
+    where
+      by : (t : Bool) → (got.len == length field) ≡ t → MatchOption (then_some t got.predicate) ((p : P) → field ≢ text p) (λ p. field ≡ text p)
+      by true is = whole_text (text got.predicate) got.len (eqb-true got.len (length field) is) front
+      by false is = λ p e. true≢false (sym (eq-eqb got.len (length field) (all p e)) ∙ is)

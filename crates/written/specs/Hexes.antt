@@ -150,3 +150,5 @@ put_more text was i b h l e =
     ∙ ap (λ x. take i text ++ (x ∷ drop (i + 1) was)) e
     ∙ sym (append_assoc (take i text) (slice_index text i ∷ []) (drop (i + 1) was))
     ∙ ap (λ bs. bs ++ drop (i + 1) was) (sym (take_more text i 0 h))
+
+pub ruleset hex_lengths = (length-hexes)

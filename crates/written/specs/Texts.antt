@@ -1,5 +1,6 @@
 -- What it is to write a text into a buffer, and to read one from the front of some bytes.
 use Rattle.std.specs.Prelude.{◌≡◌, ℕ, ◌+◌, ◌<◌, cond, List, ◌++◌, length, drop, Some, None, Option, ◌==◌, ◌≢◌, nat_lt}
+use Rattle.std.specs.Bool.{then_some}
 use Rattle.std.specs.List.{AllByRecursion}
 use Rattle.labels.specs.declared.sum.Both.{Both}
 use Rattle.written.specs.declared.Reading.{Reading}
@@ -16,7 +17,7 @@ Plain text = AllByRecursion (λ b. (b ≢ 44) × (b ≢ 10)) text
 -- a word of 16 digits, of which only numbers below a limit are read
 abbrev pub reads_word : ℕ → Option ℕ → Option (Reading ℕ)
 reads_word limit None = None
-reads_word limit (Some word) = cond (nat_lt word limit) (Some (record { predicate = word; len = 16 })) None
+reads_word limit (Some word) = then_some (nat_lt word limit) (record { predicate = word; len = 16 })
 
 -- a left text, then a right one behind it
 abbrev pub reads_right : {P Q : Type 0} → Reading P → Option (Reading Q) → Option (Reading (Both P Q))

@@ -1,7 +1,7 @@
 // The texts of style marks, code points and sums.
 
 ghost use Rattle.std.specs.Prelude.{◌≡◌, ◌+◌, ◌%◌, ◌^◌, ◌++◌, length, drop};
-ghost use Rattle.labels.specs.CutLists.{cuts_of};
+ghost use Rattle.labels.specs.CutLists.{segment_count, real_bits};
 ghost use Rattle.written.specs.Hex.{hexes, hex_read};
 ghost use Rattle.written.specs.Texts.{reads_word, reads_both};
 ghost use Rattle.labels.specs.declared.sum.Both.{Both};
@@ -34,6 +34,8 @@ impl WrittenAlgebra for StyleMarks {
 
     ghost plain = { λ a p. plain_hexes 16 p };
 
+    // All three methods stand in both impls of words: a line or two each, over the same reader and writer.
+    #[tactic(auto, using(crate::specs::Hexes::hex_lengths))]
     fn text_len(&self, _p: u64) -> usize {
         16
     }
@@ -43,45 +45,42 @@ impl WrittenAlgebra for StyleMarks {
     }
 
     fn read(&self, bytes: &[u8]) -> Option<Reading<u64>> {
-        let predicate = read_word(bytes)?;
-        Some(Reading { predicate, len: 16 })
+        read_word(bytes)
     }
 }
 
 // Bits past the last segment mean nothing: they are written as 0, and a text with one of them set is not read.
 impl WrittenAlgebra for CodePoints {
-    ghost text = { λ a p. hexes 16 (p % 2 ^ (length (cuts_of a.cuts) + 1)) };
+    ghost text = { λ a p. hexes 16 (real_bits a.cuts p) };
 
-    ghost reads = { λ a bytes. reads_word (2 ^ (length (cuts_of a.cuts) + 1)) (hex_read 16 0 bytes) };
+    ghost reads = { λ a bytes. reads_word (2 ^ segment_count a.cuts) (hex_read 16 0 bytes) };
 
-    ghost back = { λ a p rest. (p % 2 ^ (length (cuts_of a.cuts) + 1), points_back a.cuts p rest, points_low a.cuts p) };
+    ghost back = { λ a p rest. (real_bits a.cuts p, points_back a.cuts p rest, points_low a.cuts p) };
 
     ghost exact = { λ a bytes got e.
-        let limit = 2 ^ (length (cuts_of a.cuts) + 1) in
+        let limit = 2 ^ segment_count a.cuts in
         let w = word_exact limit bytes got e in
-        let low : got.predicate % limit ≡ got.predicate = mod-eq_of_lt w.small in
-        (w.len ∙ sym (length-hexes 16 (got.predicate % limit)), w.front ∙ ap (λ n. hexes 16 n ++ drop got.len bytes) (sym low)) };
+        let low : real_bits a.cuts got.predicate ≡ got.predicate = mod-eq_of_lt w.small in
+        (w.len ∙ sym (length-hexes 16 (real_bits a.cuts got.predicate)), w.front ∙ ap (λ n. hexes 16 n ++ drop got.len bytes) (sym low)) };
 
     ghost fails = { λ a bytes e p rest is.
-        let limit = 2 ^ (length (cuts_of a.cuts) + 1) in
-        fails_from_back (λ q. hexes 16 (q % limit)) (λ bs. reads_word limit (hex_read 16 0 bs)) bytes e p rest _ (points_back a.cuts p rest) is };
+        let limit = 2 ^ segment_count a.cuts in
+        fails_from_back (λ q. hexes 16 (real_bits a.cuts q)) (λ bs. reads_word limit (hex_read 16 0 bs)) bytes e p rest _ (points_back a.cuts p rest) is };
 
-    ghost plain = { λ a p. plain_hexes 16 (p % 2 ^ (length (cuts_of a.cuts) + 1)) };
+    ghost plain = { λ a p. plain_hexes 16 (real_bits a.cuts p) };
 
+    #[tactic(auto, using(crate::specs::Hexes::hex_lengths))]
     fn text_len(&self, _p: u64) -> usize {
         16
     }
 
     fn write(&self, p: u64, out: &mut [u8]) -> Option<usize> {
-        write_word(bits::low_bits(p, self.cuts.len()), out)
+        write_word(self.real_bits(p), out)
     }
 
     fn read(&self, bytes: &[u8]) -> Option<Reading<u64>> {
-        let predicate = read_word(bytes)?;
-        if bits::low_bits(predicate, self.cuts.len()) != predicate {
-            return None;
-        }
-        Some(Reading { predicate, len: 16 })
+        let got = read_word(bytes)?;
+        (self.real_bits(got.predicate) == got.predicate).then_some(got)
     }
 }
 
@@ -114,13 +113,16 @@ impl<L: WrittenAlgebra, R: WrittenAlgebra> WrittenAlgebra for Sum<L, R> {
 
     ghost plain = { λ a p. All-append _ (L.WrittenAlgebra.text a.left p.left) (R.WrittenAlgebra.text a.right p.right) (L.WrittenAlgebra.plain a.left p.left) (R.WrittenAlgebra.plain a.right p.right) };
 
+    #[tactic(auto, using(crate::specs::Codecs::length_both))]
     fn text_len(&self, p: Both<L::Predicate, R::Predicate>) -> usize {
         self.left
             .text_len(p.left)
             .saturating_add(self.right.text_len(p.right))
     }
 
+    #[tactic(auto, using(crate::specs::Codecs::room_both, std::proofs::lemmas::List::take_rest))]
     fn write(&self, p: Both<L::Predicate, R::Predicate>, out: &mut [u8]) -> Option<usize> {
+        // Tested first: the left text may not be written where the right one then has no room.
         if out.len() < self.text_len(p) {
             return None;
         }
@@ -129,6 +131,7 @@ impl<L: WrittenAlgebra, R: WrittenAlgebra> WrittenAlgebra for Sum<L, R> {
         Some(n + m)
     }
 
+    #[tactic(auto, using(crate::specs::Codecs::front_le, crate::specs::Codecs::behind_le, crate::specs::Codecs::both_reads))]
     fn read(&self, bytes: &[u8]) -> Option<Reading<Both<L::Predicate, R::Predicate>>> {
         let l = self.left.read(bytes)?;
         let r = self.right.read(&bytes[l.len..])?;

@@ -14,7 +14,7 @@ mod instances;
 use labels::LabelAlgebra;
 
 // A predicate that was read, and how many bytes its text took.
-#[derive(Clone, Copy)]
+#[derive(Clone, Copy, PartialEq, Eq, Debug)]
 pub struct Reading<P> {
     pub predicate: P,
     pub len: usize,
@@ -57,14 +57,6 @@ pub fn read_whole<L: WrittenAlgebra>(a: &L, field: &[u8]) -> Option<L::Predicate
     ensures value { result ≡ reads_whole (L.WrittenAlgebra.reads a.now) field.now }
     ensures cases { MatchOption result ((p : L.Predicate) → field.now ≢ L.WrittenAlgebra.text a.now p) (λ p. field.now ≡ L.WrittenAlgebra.text a.now p) }
 {
-    match a.read(field) {
-        Some(got) => {
-            if got.len == field.len() {
-                Some(got.predicate)
-            } else {
-                None
-            }
-        }
-        None => None,
-    }
+    let got = a.read(field)?;
+    (got.len == field.len()).then_some(got.predicate)
 }

@@ -1,15 +1,10 @@
-use Rattle.std.proofs.Common.{◌≡◌, ◌+◌, ◌≤◌, [], length}
-use Rattle.std.specs.Option.{option_map}
+use Rattle.std.proofs.Common.{◌≡◌, []}
 use Rattle.labels.specs.CutLists.{cuts_of}
-use Rattle.lines.specs.Fields.{fields, others}
+use Rattle.lines.specs.Fields.{left_fields}
 use Rattle.header.specs.CutLine.{cut_fields}
-use Rattle.header.proofs.Reading.{left_size}
 use Rattle.header.proofs.read_fields.Given as goal
 
-abbrev pub invariant-loop-left : goal.invariant-loop-left
-invariant-loop-left l =
-    (cut_fields [] 5 (fields l.rest) ≡ cut_fields (cuts_of l.cuts) l.offset (others (option_map (λ x. x.now) l.left)))
-    × (l.offset + left_size (option_map (λ x. x.now) l.left) ≤ length l.rest + 6)
-
-abbrev pub decreases-loop-left : goal.decreases-loop-left
-decreases-loop-left l = left_size (option_map (λ x. x.now) l.left)
+-- what is left adds the rest of the cuts
+abbrev pub invariant-loop-field : goal.invariant-loop-field
+invariant-loop-field l =
+    cut_fields [] l.fn.fields.at (left_fields l.fn.fields.left) ≡ cut_fields (cuts_of l.cuts) l.field-iterator.at (left_fields l.field-iterator.left)

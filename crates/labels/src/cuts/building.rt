@@ -1,10 +1,10 @@
 // How a cut list is made.
 
-ghost use Rattle.std.specs.Prelude.{◌≡◌, ◌-◌, [], ◌∷◌, ◌++◌, length, if◌then◌else◌, MatchOption, slice_index};
+ghost use Rattle.std.specs.Prelude.{◌≡◌, ◌-◌, [], ◌∷◌, ◌++◌, length, is_ok, MatchResult, OnOk, OnErr, slice_index};
 ghost use Rattle.labels.specs.Segments.{Rising, goes_on};
 ghost use Rattle.labels.specs.CutLists.{cuts_of};
 
-use super::Cuts;
+use super::{BadCut, Cuts};
 
 impl Cuts {
     // No cuts: all code points in one segment.
@@ -17,41 +17,35 @@ impl Cuts {
         }
     }
 
-    // One more cut, or false and nothing changed where the list is full or the cut is not above the last one (above 0,
+    // One more cut; refused, and nothing changed, where the list is full or the cut is not above the last one (above 0,
     // as the first) or past the last code point.
-    pub fn push(&mut self, cut: u32) -> bool
-        ensures value { result ≡ goes_on (cuts_of self.old) cut }
-        ensures after { cuts_of self.new ≡ (if result then cuts_of self.old ++ (cut ∷ []) else cuts_of self.old) }
+    #[tactic(auto, using(crate::specs::CutListsLemmas::pushes, std::proofs::lemmas::List::take_more_set))]
+    pub fn push(&mut self, cut: u32) -> Result<(), BadCut>
+        ensures value { is_ok result ≡ goes_on (cuts_of self.old) cut }
+        ensures ok { OnOk result (cuts_of self.new ≡ cuts_of self.old ++ cut ∷ []) }
+        ensures err { OnErr result (cuts_of self.new ≡ cuts_of self.old) }
     {
         if self.len >= 63 || cut <= self.last() || cut > 1_114_111 {
-            return false;
+            return Err(BadCut);
         }
         self.list[self.len] = cut;
         self.len += 1;
-        true
+        Ok(())
     }
+}
 
-    // These cuts, or nothing exactly where they are too many, do not rise, or leave the range of cuts.
-    pub fn new(cuts: &[u32]) -> Option<Cuts>
-        ensures { MatchOption result (Rising cuts.now → ⊥) (λ c. (cuts_of c ≡ cuts.now) × Rising cuts.now) }
-    {
+impl TryFrom<&[u32]> for Cuts {
+    type Error = BadCut;
+
+    // These cuts, or an error exactly where they are too many, do not rise, or leave the range of cuts.
+    ghost try_from_gives = { λ cuts made. MatchResult made (λ c. (cuts_of c ≡ cuts.now) × Rising cuts.now) (λ _. Rising cuts.now → ⊥) };
+
+    #[tactic(auto, using(std::proofs::lemmas::List::take_more, std::proofs::lemmas::List::take_all, crate::specs::CutListsLemmas::cuts_rising))]
+    fn try_from(cuts: &[u32]) -> Result<Cuts, BadCut> {
         let mut made = Cuts::none();
         for cut in cuts {
-            if !made.push(*cut) {
-                return None;
-            }
+            made.push(*cut)?;
         }
-        Some(made)
-    }
-
-    // The last cut, or 0 where there is none.
-    fn last(&self) -> u32
-        ensures { result ≡ slice_index (cuts_of self.now) (length (cuts_of self.now) - 1) }
-    {
-        if self.len == 0 {
-            0
-        } else {
-            self.list[self.len - 1]
-        }
+        Ok(made)
     }
 }

@@ -9,17 +9,17 @@ overflow_cast-segment c = let l = segment_lt c.args.a.now.cuts c.args.from in om
 
 pub returns-in_err-segments : goal.returns-in_err-segments
 returns-in_err-segments c = rw c.from_residual.ensures
-    (no_points (cuts_of c.args.a.now.cuts) (cuts_rising c.args.a.now.cuts) c.args.p _ _ c.len.ensures c.low_bits-real.ensures.bits
+    (no_points (cuts_of c.args.a.now.cuts) (cuts_rising c.args.a.now.cuts) c.args.p _ c.real_bits.ensures.bits
     c.args.from _ c.segment.ensures c.in_err-segments.ensures)
 
 pub overflow_sub-result : goal.overflow_sub-result
 overflow_sub-result c = omega (
   arith,
-  points_order (cuts_of c.args.a.now.cuts) (cuts_rising c.args.a.now.cuts) c.args.p _ _ c.len.ensures c.low_bits-real.ensures.bits
+  points_order (cuts_of c.args.a.now.cuts) (cuts_rising c.args.a.now.cuts) c.args.p _ c.real_bits.ensures.bits
       c.args.from _ c.segment.ensures _ _ _ _ _ c.in_ok-segments.ensures c.start-first.ensures c.start-end.ensures (omega arith) c.max.ensures,
 )
 
 pub returns : goal.returns
 returns c =
-    run_points (cuts_of c.args.a.now.cuts) (cuts_rising c.args.a.now.cuts) c.args.p _ _ c.len.ensures c.low_bits-real.ensures.bits
+    run_points (cuts_of c.args.a.now.cuts) (cuts_rising c.args.a.now.cuts) c.args.p _ c.real_bits.ensures.bits
     c.args.from _ c.segment.ensures _ _ _ _ _ c.in_ok-segments.ensures c.start-first.ensures c.start-end.ensures (omega arith) c.max.ensures

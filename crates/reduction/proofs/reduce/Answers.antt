@@ -1,72 +1,53 @@
-use Rattle.std.proofs.Common.{◌≡◌, ℕ, ◌-◌, ◌≤◌, min, List, length, take, sym, refl, ap, ◌∙◌, arith, rules}
+use Rattle.std.proofs.Common.{ℕ, ◌≤◌, min, ◌&&◌, ◌||◌, eqb, ltb, List, length, sym, refl, ap, ◌∙◌, subst, arith}
 use Rattle.automata.specs.Below.{table}
 use Rattle.automata.specs.Automata.{automaton}
 use Rattle.bits.specs.Matrix.{pair}
 use Rattle.reduction.specs.Drawn.{linked_at}
-use Rattle.reduction.specs.Filled.{Filled}
-use Rattle.reduction.proofs.Listing.{part_is, part_low, part_length}
-use Rattle.reduction.proofs.Whole.{listed_is, ends_agree, marks_agree, filled, filled_least}
+use Rattle.reduction.specs.Filled.{Filled, Crowded}
+use Rattle.reduction.specs.Sorted.{book_of, kept_of}
+use Rattle.reduction.proofs.Listing.{rising_low}
+use Rattle.reduction.proofs.Whole.{ends_agree, marks_agree, filled, filled_least}
 use Rattle.reduction.proofs.reduce.Goals as goal
 
-pub count_links-linked-requires : goal.count_links-linked-requires
-count_links-linked-requires g c =
-    let s = c.number-states in
-    (search rules, (part_low _ _ s.result s.new.staying s.ensures.listed 256 c.requires.source.states, omega (arith, part_length _ _ s.result s.new.staying s.ensures.listed 256 s.ensures.few c.requires.source.states s.auto.staying, s.ensures.few, c.requires.source.states)))
+pub returns-then-min-count_links-clause-made : goal.returns-then-min-count_links-clause-made
+returns-then-min-count_links-clause-made g c =
+    let b = c.of-classes.result.book in
+    let M = book_of b in
+    let K = kept_of b in
+    let linked = pair c.reach-reached.result.links.words in
+    let st = c.reach-reached.result.staying in
+    let stay = c.reach-reached.ensures.named in
+    let crowded : Crowded M K (length c.args.into_arrows.now) = λ l t. omega (arith, c.if-min-count_links.true, c.min.ensures, c.count_links.ensures, ap (λ (s : List ℕ). length (table (linked_at linked s) (length s))) stay, ends_agree M K linked l c.reach-reached.ensures.told t) in
+    subst (λ s. Crowded (book_of s) (kept_of s) (length c.args.into_arrows.now)) c.of-classes.ensures crowded
 
-pub returns-then-min-linked : goal.returns-then-min-linked
-returns-then-min-linked g c =
-    let M = automaton (g.L.LabelAlgebra.holds c.args.labels.now) c.args.marks.now c.args.arrows.now in
-    let K = pair c.args.rows.now in
-    let linked = pair c.reach.result.links in
-    let stay = part_is _ _ c.number-states.result c.number-states.new.staying c.number-states.ensures.listed ∙ listed_is M K linked c.reach.ensures.told _ c.reach.ensures.stays in
-    record {
-      made = λ l t. omega (arith, c.if-min-linked.true, c.min.ensures, c.count_links-linked.ensures, ap (λ (s : List ℕ). length (table (linked_at linked s) (length s))) stay, ends_agree M K linked l c.reach.ensures.told t);
-      same = (refl, refl, refl);
-      least = tt;
-    }
-
-pub write_arrows-arrows-requires : goal.write_arrows-arrows-requires
-write_arrows-arrows-requires g c =
-    let s = c.number-states in
-    record {
-      bounded = c.requires.source;
-      sorted = c.classes_of-classes.ensures;
-      here = (search rules, (omega (arith, part_length _ _ s.result s.new.staying s.ensures.listed 256 s.ensures.few c.requires.source.states s.auto.staying, s.ensures.few, c.requires.source.states), part_low _ _ s.result s.new.staying s.ensures.listed _ (omega arith)));
-      room = omega (arith, c.count_links-linked.ensures, c.min.ensures, c.if-min-linked.false);
-    }
-
-pub write_marks-requires : goal.write_marks-requires
-write_marks-requires g c =
-    let s = c.number-states in
-    (omega (arith, part_length _ _ s.result s.new.staying s.ensures.listed 256 s.ensures.few c.requires.source.states s.auto.staying, s.ensures.few, c.requires.source.states, c.requires.target.0), part_low _ _ s.result s.new.staying s.ensures.listed 256 c.requires.source.states)
-
-pub write_rows-requires : goal.write_rows-requires
-write_rows-requires g c =
-    let s = c.number-states in
-    (c.requires.source.square, (c.requires.target.1, (omega (arith, part_length _ _ s.result s.new.staying s.ensures.listed 256 s.ensures.few c.requires.source.states s.auto.staying, s.ensures.few, c.requires.source.states), part_low _ _ s.result s.new.staying s.ensures.listed 256 c.requires.source.states)))
-
-pub returns : goal.returns
-returns g c =
-    let h = g.L.LabelAlgebra.holds c.args.labels.now in
-    let M = automaton h c.args.marks.now c.args.arrows.now in
-    let K = pair c.args.rows.now in
-    let linked = pair c.reach.result.links in
-    let told = c.reach.ensures.told in
-    let s = c.number-states in
-    let st = take (s.result - 0) s.new.staying in
-    let stay = part_is _ _ s.result s.new.staying s.ensures.listed ∙ listed_is M K linked told _ c.reach.ensures.stays in
-    let size : length st ≡ s.result = part_length _ _ s.result s.new.staying s.ensures.listed 256 s.ensures.few c.requires.source.states s.auto.staying in
-    let room : c.write_arrows-arrows.result ≤ min (length c.write_arrows-arrows.new.into) 8192 = omega (arith, c.write_arrows-arrows.ensures.count, c.write_arrows-arrows.auto.into, c.count_links-linked.ensures, c.min.ensures, c.if-min-linked.false) in
-    let made : Filled h M K s.result c.write_arrows-arrows.result c.write_marks.new.into c.write_arrows-arrows.new.into c.write_rows.new.into =
-    filled h M K linked told s.result c.write_arrows-arrows.result c.write_marks.new.into c.write_arrows-arrows.new.into c.write_rows.new.into st stay (omega (arith, s.ensures.few, c.requires.source.states, c.requires.target.0, c.write_marks.auto.into)) room
+made : (g : _) (c : goal.After-len-states g) → Filled (g.L.LabelAlgebra.holds c.args.labels.now) (automaton (g.L.LabelAlgebra.holds c.args.labels.now) c.args.marks.now c.args.arrows.now) (pair c.args.rows.now.words) (length c.reach-reached.result.staying) c.write_arrows-arrows.result c.write_marks.new.into c.write_arrows-arrows.new.into c.write_rows.new.into.words
+made g c =
+    let s = c.of-classes.result in
+    let b = s.book in
+    let M = book_of b in
+    let K = kept_of b in
+    let linked = pair c.reach-reached.result.links.words in
+    let told = c.reach-reached.ensures.told in
+    let st = c.reach-reached.result.staying in
+    let w = c.write_arrows-arrows in
+    let fits : length st ≤ length c.write_marks.new.into = omega (arith, c.len-states.ensures.few, c.len-states.ensures.value, c.requires.target, c.write_marks.auto.into) in
+    let room : w.result ≤ min (length w.new.into) 8192 = omega (arith, w.ensures.count, w.auto.into, c.count_links.ensures, c.min.ensures, c.if-min-count_links.false) in
+    let stay = c.reach-reached.ensures.named in
+    let now' = filled (g.L.LabelAlgebra.holds b.labels.now) M K linked told (length st) w.result c.write_marks.new.into w.new.into c.write_rows.new.into.words st stay fits room
     (record {
-      size = sym size;
-      marked = ap (λ (n : ℕ). take n c.write_marks.new.into) (sym size) ∙ c.write_marks.ensures ∙ marks_agree M K _ _ st c.classes_of-classes.ensures.initial c.classes_of-classes.ensures.accepting (part_low _ _ s.result s.new.staying s.ensures.listed _ (omega arith));
-      drawn = c.write_arrows-arrows.ensures;
-      kept = c.write_rows.ensures;
+      size = refl;
+      marked = c.write_marks.ensures ∙ marks_agree M K s.marks st s.initial s.accepting (rising_low _ _ st stay);
+      drawn = w.ensures;
+      kept = λ i j. c.write_rows.ensures i j ∙ ap (λ s. ltb i (length st) && (ltb j (length st) && (eqb i j || linked_at (kept_of s) st i j))) (sym c.of-classes.ensures);
     }) in
-    record {
-      made = made;
-      same = tt;
-      least = λ greatest. filled_least h M K linked told s.result c.write_arrows-arrows.result c.write_marks.new.into c.write_arrows-arrows.new.into c.write_rows.new.into greatest made;
-    }
+    subst (λ s. Filled (g.L.LabelAlgebra.holds s.labels.now) (book_of s) (kept_of s) (length st) w.result c.write_marks.new.into w.new.into c.write_rows.new.into.words) c.of-classes.ensures now'
+
+written : (g : _) (c : goal.After-len-states g) → Filled (g.L.LabelAlgebra.holds c.args.labels.now) (automaton (g.L.LabelAlgebra.holds c.args.labels.now) c.args.marks.now c.args.arrows.now) (pair c.args.rows.now.words) c.len-states.result c.write_arrows-arrows.result c.write_marks.new.into c.write_arrows-arrows.new.into c.write_rows.new.into.words
+written g c = subst (λ (n : ℕ). Filled (g.L.LabelAlgebra.holds c.args.labels.now) (automaton (g.L.LabelAlgebra.holds c.args.labels.now) c.args.marks.now c.args.arrows.now) (pair c.args.rows.now.words) n c.write_arrows-arrows.result c.write_marks.new.into c.write_arrows-arrows.new.into c.write_rows.new.into.words) (sym c.len-states.ensures.value) (made g c)
+
+pub returns-clause-made : goal.returns-clause-made
+returns-clause-made g c = written g c
+
+pub returns-clause-least : goal.returns-clause-least
+returns-clause-least g c greatest =
+    filled_least (g.L.LabelAlgebra.holds c.args.labels.now) (automaton (g.L.LabelAlgebra.holds c.args.labels.now) c.args.marks.now c.args.arrows.now) (pair c.args.rows.now.words) c.len-states.result c.write_arrows-arrows.result c.write_marks.new.into c.write_arrows-arrows.new.into c.write_rows.new.into.words greatest (written g c)

@@ -7,31 +7,19 @@ ghost use Rattle.rulebook.specs.Model.{machine, asking, copying};
 ghost use Rattle.rulebook.specs.Reducing.{Copied};
 ghost use Rattle.rulebook.specs.View.{view, kept};
 
-use super::opening::judge;
 use super::*;
 use labels::LabelAlgebra;
-
-// Copies the first `used` words, and leaves the later ones.
-fn copy_front(rows: &[u64], used: usize, words: &mut [u64])
-    requires { (used ≤ length rows.now) × (used ≤ length words.old) }
-    ensures front { (i : ℕ) → i < used → slice_index words.new i ≡ slice_index rows.now i }
-    ensures later { (i : ℕ) → used ≤ i → slice_index words.new i ≡ slice_index words.old i }
-{
-    for i in 0..used {
-        bits::put_word(words, i, rows[i]);
-    }
-}
 
 impl<'t, P> Book<'t, P> {
     // Whether the pair `p`, `q` is kept: declines with 6, 2.
     pub fn ask(&self, p: u16, q: u16) -> Result<bool, Refusal>
         ensures says { result ≡ asking (view self.now) (kept self.now) p q }
     {
-        judge(self.inner.condition, Act::Reads)?;
+        self.inner.condition.judge(Act::Reads)?;
         if !self.has_state(p) || !self.has_state(q) {
             return Err(Refusal::NoSuchState);
         }
-        Ok(bits::is_kept(&self.inner.rows, p as usize, q as usize))
+        Ok(self.inner.rows.keeps(usize::from(p), usize::from(q)))
     }
 
     // Copies the kept pairs into the first four words a state: declines with 6, 3. Later words stay.
@@ -39,12 +27,12 @@ impl<'t, P> Book<'t, P> {
         ensures says { result ≡ copying (view self.now) (length words.old) }
         ensures copies { MatchResult result (λ _. Copied (length (view self.now).marks) (kept self.now) words.old words.new) (λ _. words.new ≡ words.old) }
     {
-        judge(self.inner.condition, Act::Reads)?;
+        self.inner.condition.judge(Act::Reads)?;
         let used = 4 * self.inner.states;
         if words.len() < used {
             return Err(Refusal::TooSmall);
         }
-        copy_front(&self.inner.rows, used, words);
+        words[..used].copy_from_slice(&self.inner.rows.words[..used]);
         Ok(())
     }
 
@@ -52,10 +40,7 @@ impl<'t, P> Book<'t, P> {
     pub fn is_open(&self) -> bool
         ensures { result ≡ not (is_settled (view self.now).condition) }
     {
-        match self.inner.condition {
-            Condition::Settled => false,
-            Condition::Open => true,
-        }
+        matches!(self.inner.condition, Condition::Open)
     }
 
     // The number that it was given.
@@ -69,15 +54,15 @@ impl<'t, P> Book<'t, P> {
     pub fn marks(&self) -> &[Mark]
         ensures { result.now ≡ (view self.now).marks }
     {
-        &self.inner.marks[0..self.inner.states]
+        &self.inner.marks[..self.inner.states]
     }
 
     // Its arrows, from the first place on.
     pub fn arrows(&self) -> &[Arrow<P>]
         ensures { result.now ≡ (view self.now).arrows }
     {
-        let slots = &*self.table.slots;
-        &slots[0..self.inner.arrows]
+        let slots = &*self.slots;
+        &slots[..self.inner.arrows]
     }
 }
 

@@ -6,7 +6,7 @@ ghost use Rattle.automata.specs.declared.Mark.TheVariants.{Neither};
 ghost use Rattle.automata.specs.Automata.{Within};
 ghost use Rattle.rulebook.specs.declared.parts.Condition.TheVariants.{Open};
 ghost use Rattle.rulebook.specs.Model.{with_marks, with_arrows, state_exists, has_room, adding_state, re_marking, adding_arrow, striking};
-ghost use Rattle.rulebook.specs.View.{view, kept};
+ghost use Rattle.rulebook.specs.View.{view, number_of, Leaves, Edits};
 
 use super::*;
 use labels::LabelAlgebra;
@@ -16,15 +16,14 @@ impl<'t, P> Book<'t, P> {
     pub(super) fn has_state(&self, p: u16) -> bool
         ensures { result ≡ state_exists (view self.now) p }
     {
-        (p as usize) < self.inner.states
+        usize::from(p) < self.inner.states
     }
 
-    // Whether `more` arrows have room.
-    pub(super) fn has_room(&self, more: usize) -> bool
-        requires { more ≤ 8192 }
-        ensures { result ≡ has_room (view self.now) more }
+    // Whether one more arrow has room.
+    fn has_room(&self) -> bool
+        ensures { result ≡ has_room (view self.now) 1 }
     {
-        self.inner.arrows + more <= self.table.slots.len().min(8192)
+        self.inner.arrows < self.slots.len().min(8192)
     }
 
     // Writes a mark after the others, and says where.
@@ -32,10 +31,8 @@ impl<'t, P> Book<'t, P> {
         requires open { self.old.inner.condition ≡ Open }
         requires few { self.old.inner.states < 256 }
         ensures says { result ≡ length (view self.old).marks }
-        ensures leaves { view self.new ≡ with_marks (view self.old) ((view self.old).marks ++ (mark ∷ [])) }
         ensures few { length (view self.old).marks < 256 }
-        ensures keeps { kept self.new ≡ kept self.old }
-        ensures lent { self.new.table.slots.ghost_name ≡ self.old.table.slots.ghost_name }
+        ensures leaves { Leaves (with_marks (view self.old) ((view self.old).marks ++ (mark ∷ []))) self.old self.new }
     {
         let place = self.inner.states;
         self.inner.marks[place] = mark;
@@ -47,9 +44,7 @@ impl<'t, P> Book<'t, P> {
     fn write_mark(&mut self, state: usize, mark: Mark) -> Mark
         requires { state < self.old.inner.states }
         ensures says { result ≡ slice_index_or (view self.old).marks state Neither }
-        ensures leaves { view self.new ≡ with_marks (view self.old) (slice_set (view self.old).marks state mark) }
-        ensures keeps { kept self.new ≡ kept self.old }
-        ensures lent { self.new.table.slots.ghost_name ≡ self.old.table.slots.ghost_name }
+        ensures leaves { Leaves (with_marks (view self.old) (slice_set (view self.old).marks state mark)) self.old self.new }
     {
         let old = self.inner.marks[state];
         self.inner.marks[state] = mark;
@@ -58,10 +53,7 @@ impl<'t, P> Book<'t, P> {
 
     // Adds a state at the end of the list: declines with 8, 7, 1, and answers the state's number.
     pub fn add_state(&mut self, ticket: &Ticket, mark: Mark) -> Result<u16, Refusal>
-        ensures says { result ≡ (adding_state (view self.old) ticket.now.number mark).answer }
-        ensures leaves { view self.new ≡ (adding_state (view self.old) ticket.now.number mark).next }
-        ensures keeps { kept self.new ≡ kept self.old }
-        ensures lent { self.new.table.slots.ghost_name ≡ self.old.table.slots.ghost_name }
+        ensures { Edits (adding_state (view self.old) (number_of ticket.now) mark) result self.old self.new }
     {
         self.admit(ticket, Act::Edits)?;
         if self.inner.states >= 256 {
@@ -72,16 +64,13 @@ impl<'t, P> Book<'t, P> {
 
     // Gives a state another mark: declines with 8, 7, 2, and answers the old mark.
     pub fn re_mark(&mut self, ticket: &Ticket, state: u16, mark: Mark) -> Result<Mark, Refusal>
-        ensures says { result ≡ (re_marking (view self.old) ticket.now.number state mark).answer }
-        ensures leaves { view self.new ≡ (re_marking (view self.old) ticket.now.number state mark).next }
-        ensures keeps { kept self.new ≡ kept self.old }
-        ensures lent { self.new.table.slots.ghost_name ≡ self.old.table.slots.ghost_name }
+        ensures { Edits (re_marking (view self.old) (number_of ticket.now) state mark) result self.old self.new }
     {
         self.admit(ticket, Act::Edits)?;
         if !self.has_state(state) {
             return Err(Refusal::NoSuchState);
         }
-        Ok(self.write_mark(state as usize, mark))
+        Ok(self.write_mark(usize::from(state), mark))
     }
 }
 
@@ -89,14 +78,12 @@ impl<'t, P: Copy> Book<'t, P> {
     // Writes an arrow after the others.
     fn put(&mut self, arrow: Arrow<P>)
         requires few { self.old.inner.arrows < 8192 }
-        requires room { self.old.inner.arrows < length self.old.table.slots.now }
+        requires room { self.old.inner.arrows < length self.old.slots.now }
         requires ends { Within self.old.inner.states arrow }
-        ensures leaves { view self.new ≡ with_arrows (view self.old) ((view self.old).arrows ++ (arrow ∷ [])) }
-        ensures keeps { kept self.new ≡ kept self.old }
-        ensures lent { self.new.table.slots.ghost_name ≡ self.old.table.slots.ghost_name }
+        ensures { Leaves (with_arrows (view self.old) ((view self.old).arrows ++ (arrow ∷ []))) self.old self.new }
     {
         let place = self.inner.arrows;
-        self.table.put(place, arrow);
+        self.slots[place] = arrow;
         self.inner.arrows = place + 1;
     }
 
@@ -109,19 +96,16 @@ impl<'t, P: Copy> Book<'t, P> {
         label: P,
         target: u16,
     ) -> Result<usize, Refusal>
-        ensures says { result ≡ (adding_arrow (view self.old) ticket.now.number source label target (L.LabelAlgebra.satisfiable labels.now label)).answer }
-        ensures leaves { view self.new ≡ (adding_arrow (view self.old) ticket.now.number source label target (L.LabelAlgebra.satisfiable labels.now label)).next }
-        ensures keeps { kept self.new ≡ kept self.old }
-        ensures lent { self.new.table.slots.ghost_name ≡ self.old.table.slots.ghost_name }
+        ensures { Edits (adding_arrow (view self.old) (number_of ticket.now) source label target (L.LabelAlgebra.satisfiable labels.now label)) result self.old self.new }
     {
         self.admit(ticket, Act::Edits)?;
         if !self.has_state(source) || !self.has_state(target) {
             return Err(Refusal::NoSuchState);
         }
-        if !is_satisfiable(labels, label) {
+        if !labels::is_satisfiable(labels, label) {
             return Err(Refusal::EmptyLabel);
         }
-        if !self.has_room(1) {
+        if !self.has_room() {
             return Err(Refusal::TooSmall);
         }
         let place = self.inner.arrows;
@@ -133,37 +117,17 @@ impl<'t, P: Copy> Book<'t, P> {
         Ok(place)
     }
 
-    // Takes the arrow at `place` out; those after it move down one place.
-    fn close_gap(&mut self, place: usize)
-        requires { place < self.old.inner.arrows }
-        ensures leaves { view self.new ≡ with_arrows (view self.old) (remove (view self.old).arrows place) }
-        ensures keeps { kept self.new ≡ kept self.old }
-        ensures lent { self.new.table.slots.ghost_name ≡ self.old.table.slots.ghost_name }
-    {
-        let len = self.inner.arrows;
-        self.table.strike(place, len);
-        self.inner.arrows = len - 1;
-    }
-
     // Strikes an arrow: declines with 8, 7, 5. Its room serves again.
     pub fn strike(&mut self, ticket: &Ticket, place: usize) -> Result<(), Refusal>
-        ensures says { result ≡ (striking (view self.old) ticket.now.number place).answer }
-        ensures leaves { view self.new ≡ (striking (view self.old) ticket.now.number place).next }
-        ensures keeps { kept self.new ≡ kept self.old }
-        ensures lent { self.new.table.slots.ghost_name ≡ self.old.table.slots.ghost_name }
+        ensures { Edits (striking (view self.old) (number_of ticket.now) place) result self.old self.new }
     {
         self.admit(ticket, Act::Edits)?;
         if place >= self.inner.arrows {
             return Err(Refusal::NoSuchArrow);
         }
-        self.close_gap(place);
+        let len = self.inner.arrows;
+        self.slots.copy_within(place + 1..len, place);
+        self.inner.arrows = len - 1;
         Ok(())
     }
-}
-
-// Whether the label has a symbol: an absent sample is the only test.
-fn is_satisfiable<L: LabelAlgebra>(labels: &L, label: L::Predicate) -> bool
-    ensures { result ≡ L.LabelAlgebra.satisfiable labels.now label }
-{
-    labels.sample(label).is_some()
 }

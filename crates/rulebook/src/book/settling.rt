@@ -5,19 +5,18 @@ ghost use Rattle.bits.specs.Matrix.{pair};
 ghost use Rattle.automata.specs.Below.{pairs};
 ghost use Rattle.automata.specs.Simulation.{Greatest, Keeps};
 ghost use Rattle.rulebook.specs.Model.{machine, settling};
-ghost use Rattle.rulebook.specs.View.{view, kept, said_settled, handed_back};
+ghost use Rattle.rulebook.specs.View.{view, kept, lent_of, number_of, said_settled, handed_back};
 
 use super::*;
 use labels::LabelAlgebra;
 
 impl<'t, P: Copy> Book<'t, P> {
     // The greatest simulation of the book, into `rows`, and the number of its pairs.
-    fn simulation<L: LabelAlgebra<Predicate = P>>(&self, labels: &L, rows: &mut [u64]) -> usize
-        requires { length rows.old ≡ 1024 }
-        ensures keeps { Keeps (machine (L.LabelAlgebra.holds labels.now) (view self.now)) (pair rows.new) }
-        ensures greatest { Greatest (machine (L.LabelAlgebra.holds labels.now) (view self.now)) (pair rows.new) }
-        ensures empty { (p q : ℕ) → (self.now.inner.states ≤ p) ⊎ (self.now.inner.states ≤ q) → pair rows.new p q ≡ false }
-        ensures count { result ≡ pairs (pair rows.new) (length (view self.now).marks) }
+    fn simulation<L: LabelAlgebra<Predicate = P>>(&self, labels: &L, rows: &mut Rows<1024>) -> usize
+        ensures keeps { Keeps (machine (L.LabelAlgebra.holds labels.now) (view self.now)) (pair rows.new.words) }
+        ensures greatest { Greatest (machine (L.LabelAlgebra.holds labels.now) (view self.now)) (pair rows.new.words) }
+        ensures empty { (p q : ℕ) → (self.now.inner.states ≤ p) ⊎ (self.now.inner.states ≤ q) → pair rows.new.words p q ≡ false }
+        ensures count { result ≡ pairs (pair rows.new.words) (length (view self.now).marks) }
     {
         engine::settle(labels, self.arrows(), self.marks(), rows)
     }
@@ -29,17 +28,18 @@ impl<'t, P: Copy> Book<'t, P> {
         labels: &L,
         ticket: Ticket,
     ) -> Result<usize, (Refusal, Ticket)>
-        ensures says { said_settled result ≡ (settling (view self.old) ticket.number).answer }
-        ensures leaves { view self.new ≡ (settling (view self.old) ticket.number).next }
+        ensures says { said_settled result ≡ (settling (view self.old) (number_of ticket)).answer }
+        ensures leaves { view self.new ≡ (settling (view self.old) (number_of ticket)).next }
         ensures keeps { MatchResult result (λ n. Keeps (machine (L.LabelAlgebra.holds labels.now) (view self.old)) (kept self.new) × (n ≡ pairs (kept self.new) (length (view self.old).marks))) (λ _. kept self.new ≡ kept self.old) }
         ensures back { handed_back result ticket }
-        ensures lent { self.new.table.slots.ghost_name ≡ self.old.table.slots.ghost_name }
+        ensures lent { lent_of self.new ≡ lent_of self.old }
     {
+        // The ticket goes one way or the other, which `?` cannot say of a value that may not be let go.
         match self.admit(&ticket, Act::Settles) {
             Err(why) => Err((why, ticket)),
             Ok(next) => {
                 let Ticket { number: _ } = ticket;
-                let mut rows = [0; 1024];
+                let mut rows = Rows::empty();
                 let count = self.simulation(labels, &mut rows);
                 self.inner.rows = rows;
                 self.inner.condition = next;

@@ -1,50 +1,72 @@
-use Rattle.std.proofs.Common.{vec_items, arith}
+use Rattle.std.proofs.Common.{◌≡◌, [], Ok, Err, ◌∙◌, subst}
+use Rattle.std.proofs.lemmas.Result.{err_from_is_err_and}
 use Rattle.labels.specs.CutLists.{cuts_of}
-use Rattle.lines.proofs.Fields.{length_parted}
-use Rattle.script.proofs.Law.{no_line, script_from_parts, no_cuts, no_script}
-use Rattle.script.proofs.Says.{script_stop, script_fault, script_lines, script_refuses}
+use Rattle.lines.specs.Fields.{Parted, split}
+use Rattle.std.specs.List.{AllByRecursion}
+use Rattle.header.proofs.Behind.{read_stop, read_first, no_line, no_cuts}
+use Rattle.label_list.specs.Lists.{styled_text}
+use Rattle.script.specs.Lines.{Fits, lines_text}
+use Rattle.script.specs.Scripts.{behind_cuts}
+use Rattle.script.proofs.Says.{script_refuses, script_read}
+use Rattle.script.proofs.Law.{no_script, script_from_parts}
 use Rattle.script.proofs.read_script.Goals as goal
 
-pub returns-in_default : goal.returns-in_default
-returns-in_default c =
-    let none = c.in_default.ensures.value in
-    record { value = script_stop c.args.text.now none; law = no_line c.args.text.now none }
+pub returns-in_err-next_line : goal.returns-in_err-next_line
+returns-in_err-next_line c =
+    let p = err_from_is_err_and c.from_residual.result c.from_residual.ensures.1 in
+    let lines = c.of-lines.result in
+    let all = c.of-lines.ensures in
+    let stop = c.in_err-next_line.ensures in
+    rw (p.1, p.2)
+    (record {
+      value = read_stop behind_cuts c.args.text.now lines.left.now lines.at all.left all.at _ stop.value stop.at;
+      law = no_line (λ cs ls. lines_text (styled_text cs) ls) (AllByRecursion Fits) c.args.text.now (subst (λ t. split t ≡ record { whole = []; rest = t }) all.left stop.value);
+    })
 
-pub returns-in-Err : goal.returns-in-Err
-returns-in-Err c =
-    let text = c.args.text.now in
-    let line = c.in-Some.first.bytes.now in
-    let rest = c.in-Some.first.rest.now in
+pub returns-in_err-cuts : goal.returns-in_err-cuts
+returns-in_err-cuts c =
+    let p = err_from_is_err_and c.from_residual-in_err-cuts.result c.from_residual-in_err-cuts.ensures.1 in
+    let lines = c.of-lines.result in
+    let all = c.of-lines.ensures in
+    let line = c.in_ok-next_line.field-0 in
+    let taken = c.in_ok-next_line.ensures in
+    let rest = c.next_line.new.self in
+    let bad = c.in_err-cuts.ensures in
+    rw (p.1, p.2)
+    (record {
+      value = read_first behind_cuts c.args.text.now lines.left.now lines.at all.left all.at line.bytes.now rest.left.now line.at rest.at taken.value taken.at taken.next (Err c.in_err-cuts.field-0.0) bad.value;
+      law = no_cuts (λ cs ls. lines_text (styled_text cs) ls) (AllByRecursion Fits) c.args.text.now line.bytes.now rest.left.now (subst (λ t. Parted 10 t line.bytes.now rest.left.now) all.left taken.cases) bad.law;
+    })
+
+pub returns-in_err-calls : goal.returns-in_err-calls
+returns-in_err-calls c =
+    let p = err_from_is_err_and c.from_residual-in_err-calls.result c.from_residual-in_err-calls.ensures.1 in
+    let lines = c.of-lines.result in
+    let all = c.of-lines.ensures in
+    let line = c.in_ok-next_line.field-0 in
+    let taken = c.in_ok-next_line.ensures in
+    let rest = c.next_line.new.self in
+    let cuts = cuts_of c.in_ok-cuts.cuts in
+    let good = c.in_ok-cuts.ensures in
+    let bad = c.in_err-calls.ensures in
+    let says = read_first behind_cuts c.args.text.now lines.left.now lines.at all.left all.at line.bytes.now rest.left.now line.at rest.at taken.value taken.at taken.next (Ok cuts) good.value in
+    rw (p.1, p.2)
+    (record {
+      value = script_refuses c.args.text.now cuts rest.at rest.left.now c.in_err-calls.field-0.0 says bad.value;
+      law = no_script c.args.text.now line.bytes.now rest.left.now (subst (λ t. Parted 10 t line.bytes.now rest.left.now) all.left taken.cases) line.at (taken.at ∙ all.at) cuts c.in_err-calls.field-0.0 good.value bad.law;
+    })
+
+pub returns : goal.returns
+returns c =
+    let lines = c.of-lines.result in
+    let all = c.of-lines.ensures in
+    let line = c.in_ok-next_line.field-0 in
+    let taken = c.in_ok-next_line.ensures in
+    let rest = c.next_line.new.self in
+    let cuts = cuts_of c.in_ok-cuts.cuts in
+    let good = c.in_ok-cuts.ensures in
+    let read = c.in_ok-calls.ensures in
     record {
-      value = script_fault text line rest c.in-Some.ensures.value c.in-Err.fault c.in-Err.ensures.value;
-      law = no_cuts text line rest c.in-Some.ensures.cases c.in-Err.ensures.law;
-    }
-
-pub read_lines-requires : goal.read_lines-requires
-read_lines-requires c =
-    let long = length_parted 10 c.args.text.now c.in-Some.first.bytes.now c.in-Some.first.rest.now c.in-Some.ensures.cases in
-    (omega (arith, long), omega arith)
-
-pub returns-in-Ok-read_lines : goal.returns-in-Ok-read_lines
-returns-in-Ok-read_lines c =
-    let text = c.args.text.now in
-    let line = c.in-Some.first.bytes.now in
-    let rest = c.in-Some.first.rest.now in
-    let cuts = cuts_of c.in-Ok.cuts in
-    let draft = c.in-Ok-read_lines.draft in
-    record {
-      value = script_lines text line rest c.in-Some.ensures.value cuts (record { calls = vec_items draft.calls; symbols = vec_items draft.symbols }) c.in-Ok.ensures.value c.in-Ok-read_lines.ensures.value;
-      law = script_from_parts text line rest c.in-Some.ensures.cases cuts (record { calls = vec_items draft.calls; symbols = vec_items draft.symbols }) c.in-Ok.ensures.law c.in-Ok-read_lines.ensures.law;
-    }
-
-pub returns-in-Err-read_lines : goal.returns-in-Err-read_lines
-returns-in-Err-read_lines c =
-    let text = c.args.text.now in
-    let line = c.in-Some.first.bytes.now in
-    let rest = c.in-Some.first.rest.now in
-    let cuts = cuts_of c.in-Ok.cuts in
-    let why = c.in-Err-read_lines.refusal in
-    record {
-      value = script_refuses text line rest c.in-Some.ensures.value cuts why c.in-Ok.ensures.value c.in-Err-read_lines.ensures.value;
-      law = no_script text line rest c.in-Some.ensures.cases cuts why c.in-Ok.ensures.value c.in-Err-read_lines.ensures.law;
+      value = script_read c.args.text.now cuts rest.at rest.left.now _ (read_first behind_cuts c.args.text.now lines.left.now lines.at all.left all.at line.bytes.now rest.left.now line.at rest.at taken.value taken.at taken.next (Ok cuts) good.value) read.value;
+      law = script_from_parts c.args.text.now line.bytes.now rest.left.now (subst (λ t. Parted 10 t line.bytes.now rest.left.now) all.left taken.cases) cuts _ good.law read.law;
     }

@@ -1,28 +1,38 @@
-use Rattle.std.proofs.Common.{◌∙◌}
+use Rattle.std.proofs.Common.{◌≡◌, ℕ, ◌<◌, true, length, sym, refl, subst}
 use Rattle.bits.specs.Matrix.{pair}
 use Rattle.automata.specs.Automata.{automaton}
+use Rattle.automata.specs.Simulation.{Wide}
+use Rattle.automata.specs.Below.{pairs}
 use Rattle.automata.proofs.Simulations.{simulations}
-use Rattle.engine.proofs.Settled.{started, settled, settled_empty}
+use Rattle.engine.specs.Columns.{machine, Answered}
+use Rattle.engine.proofs.Settled.{filled_wide, greatest, settled_empty}
 use Rattle.engine.proofs.settling.settle.Goals as goal
 
 pub sweep-requires : goal.sweep-requires
 sweep-requires g c =
-    let b = c.indexed-book.ensures in
-    record { rows = c.fill.auto.rows ∙ c.requires.rows; ready = b.ready; wide = started (g.L.LabelAlgebra.holds c.args.labels.now) c.indexed-book.result c.args.marks.now b.marks c.fill.new.rows c.fill.ensures }
+    let h = g.L.LabelAlgebra.holds c.args.labels.now in
+    let b = c.new-book.result in
+    let e = c.new-book.ensures in
+    let same : machine g.L.LabelAlgebra.holds b ≡ automaton h c.args.marks.now c.args.arrows.now = rw (e.labels, e.marks, e.arrows) refl in
+    subst (λ M. Wide M (pair c.fill.new.rows.words)) (sym same) (filled_wide h c.args.marks.now c.args.arrows.now c.fill.new.rows.words c.fill.ensures)
 
 pub returns : goal.returns
 returns g c =
     let h = g.L.LabelAlgebra.holds c.args.labels.now in
     let marks = c.args.marks.now in
     let xs = c.args.arrows.now in
-    let first = c.fill.new.rows in
-    let last = c.sweep.new.rows in
-    let b = c.indexed-book.ensures in
+    let M = automaton h marks xs in
+    let b = c.new-book.result in
+    let e = c.new-book.ensures in
+    let same : machine g.L.LabelAlgebra.holds b ≡ M = rw (e.labels, e.marks, e.arrows) refl in
+    let first = c.fill.new.rows.words in
+    let last = c.sweep.new.rows.words in
     let s = c.sweep.ensures in
-    let greatest = settled h c.indexed-book.result marks xs b.marks b.arrows first last c.fill.ensures s.fewer s.wide s.answered in
+    let settled = greatest h marks xs first c.fill.ensures last s.fewer (subst (λ M. Wide M (pair last)) same s.wide)
+    (subst (λ M. (p q : ℕ) → q < M.size → pair last p q ≡ true → Answered M (pair last) p q) same s.answered) in
     record {
-      keeps = ((simulations _).keeps (automaton h marks xs) (pair last)).0 greatest;
-      greatest = greatest;
+      keeps = ((simulations _).keeps M (pair last)).0 settled;
+      greatest = settled;
       empty = settled_empty marks first last c.fill.ensures s.fewer;
-      count = c.count_pairs.ensures;
+      count = subst (λ ms. c.count.result ≡ pairs (pair last) (length ms)) e.marks c.count.ensures;
     }

@@ -1,6 +1,6 @@
-use Rattle.std.proofs.Common.{◌≡◌}
+use Rattle.rulebook.specs.Model.{Edited}
 use Rattle.rulebook.specs.View.{view}
 use Rattle.rulebook_uses.proofs.calls.add_states.Given as goal
 
 abbrev pub invariant-loop : goal.invariant-loop
-invariant-loop l = ((view l.book).number ≡ (view l.initial.book).number) × ((view l.book).condition ≡ (view l.initial.book).condition)
+invariant-loop l = Edited (view l.initial.book) (view l.book)

@@ -1,15 +1,10 @@
-use Rattle.std.proofs.Common.{◌≡◌, ◌+◌, ◌≤◌, ◌++◌, length, vec_items}
-use Rattle.std.specs.Option.{option_map}
-use Rattle.lines.specs.Fields.{fields, others}
-use Rattle.header.proofs.Reading.{left_size}
-use Rattle.script.specs.Reads.{over, symbols_say}
+use Rattle.std.proofs.Common.{◌≡◌, ◌++◌, vec_items}
+use Rattle.lines.specs.Fields.{left_fields}
+use Rattle.lines.specs.Texts.{over}
+use Rattle.script.specs.Reads.{symbols_say}
 use Rattle.script.proofs.words.read_symbols.Given as goal
 
 -- what is left adds the rest of the symbols
-abbrev pub invariant-loop-left : goal.invariant-loop-left
-invariant-loop-left l =
-    (over (λ w. vec_items l.initial.symbols ++ w) (symbols_say l.initial.at (fields l.rest)) ≡ over (λ w. vec_items l.symbols ++ w) (symbols_say l.at (others (option_map (λ x. x.now) l.left))))
-    × (l.at.offset + left_size (option_map (λ x. x.now) l.left) ≤ l.initial.at.offset + length l.rest + 1)
-
-abbrev pub decreases-loop-left : goal.decreases-loop-left
-decreases-loop-left l = left_size (option_map (λ x. x.now) l.left)
+abbrev pub invariant-loop-field : goal.invariant-loop-field
+invariant-loop-field l =
+    over (λ w. vec_items l.initial.symbols ++ w) (symbols_say l.fn.fields.at (left_fields l.fn.fields.left)) ≡ over (λ w. vec_items l.symbols ++ w) (symbols_say l.field-iterator.at (left_fields l.field-iterator.left))

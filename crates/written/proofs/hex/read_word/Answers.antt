@@ -1,28 +1,40 @@
-use Rattle.std.proofs.Common.{get_or, sym, ◌∙◌, arith}
-use Rattle.written.specs.Hexes.{read_short, read_more, read_stop, read_all, digits_fit, word_fits, value_below}
+use Rattle.std.proofs.Common.{◌≡◌, ◌^◌, ◌<◌, Some, get_or, length, sym, ap, ◌∙◌, arith}
+use Rattle.std.proofs.lemmas.List.{get_or-take}
+use Rattle.written.specs.Hex.{hex_value}
+use Rattle.written.specs.Texts.{reads_word}
+use Rattle.written.specs.Hexes.{read_more, read_stop, digits_fit, word_fits, value_below}
 use Rattle.written.proofs.hex.read_word.Goals as goal
 
-pub returns-then-bytes-lt16 : goal.returns-then-bytes-lt16
-returns-then-bytes-lt16 c = sym (read_short 16 0 c.args.bytes.now c.if-bytes-lt16.true)
+pub overflow_mul-predicate : goal.overflow_mul-predicate
+overflow_mul-predicate c =
+    let below : c.loop-byte.byte-index < 16 = omega (arith, c.in_ok-byte-items.ensures.lookup, c.loop-byte-test.true) in
+    omega (arith, word_fits c.loop-byte.byte-index c.loop-byte.predicate 0 below c.loop-byte.invariant.fits (omega arith))
 
-pub overflow_mul-word : goal.overflow_mul-word
-overflow_mul-word c = omega (arith, word_fits c.loop-i.i c.loop-i.word 0 c.loop-i-test.true c.loop-i.invariant.0 (omega arith))
+pub overflow_add-predicate : goal.overflow_add-predicate
+overflow_add-predicate c =
+    let below : c.loop-byte.byte-index < 16 = omega (arith, c.in_ok-byte-items.ensures.lookup, c.loop-byte-test.true) in
+    let small = value_below (get_or c.in_ok-byte-items.byte-items.now c.loop-byte.byte-index 0) c.in_ok-value.field-0 (sym c.in_ok-value.ensures) in
+    omega (arith, c.from.ensures, word_fits c.loop-byte.byte-index c.loop-byte.predicate c.in_ok-value.field-0 below c.loop-byte.invariant.fits small)
 
-pub overflow_add-word : goal.overflow_add-word
-overflow_add-word c =
-    omega (arith, word_fits c.loop-i.i c.loop-i.word c.in-Some.d c.loop-i-test.true c.loop-i.invariant.0 (value_below (get_or c.args.bytes.now c.loop-i.i 0) _ (sym c.in-Some.ensures)))
+pub returns-in_err-value : goal.returns-in_err-value
+returns-in_err-value c =
+    let i = c.loop-byte.byte-index in
+    let bytes = c.args.bytes.now in
+    let below : i < 16 = omega (arith, c.in_ok-byte-items.ensures.lookup, c.loop-byte-test.true) in
+    let within : i < length bytes = omega (arith, c.in_ok-byte-items.ensures.lookup, below) in
+    let here = ap (λ xs. get_or xs i 0) c.in_ok-byte-items.ensures.lookup.0.2 ∙ get_or-take 16 bytes i 0 below in
+    c.from_residual-in_err-value.ensures
+    ∙ ap (reads_word (2 ^ 64)) (sym (c.loop-byte.invariant.read ∙ read_stop i c.loop-byte.predicate bytes below within (ap hex_value (sym here) ∙ sym c.in_err-value.ensures)))
 
-pub returns-in-None : goal.returns-in-None
-returns-in-None c =
-    sym (c.loop-i.invariant.1 ∙ read_stop c.loop-i.i c.loop-i.word c.args.bytes.now c.loop-i-test.true (omega arith) (sym c.in-None.ensures))
-
-pub loop-i-preserved : goal.loop-i-preserved
-loop-i-preserved c =
-    let i = c.loop-i.i in
-    let digit = sym c.in-Some.ensures in (
-      digits_fit i c.loop-i.word c.in-Some.d c.loop-i.invariant.0 (value_below (get_or c.args.bytes.now i 0) _ digit),
-      c.loop-i.invariant.1 ∙ read_more i c.loop-i.word c.in-Some.d c.args.bytes.now c.loop-i-test.true (omega arith) digit,
-    )
-
-pub returns : goal.returns
-returns c = sym (c.loop-i.invariant.1 ∙ read_all c.loop-i.i c.loop-i.word _ c.loop-i-test.false)
+pub loop-byte-preserved : goal.loop-byte-preserved
+loop-byte-preserved c =
+    let i = c.loop-byte.byte-index in
+    let bytes = c.args.bytes.now in
+    let below : i < 16 = omega (arith, c.in_ok-byte-items.ensures.lookup, c.loop-byte-test.true) in
+    let within : i < length bytes = omega (arith, c.in_ok-byte-items.ensures.lookup, below) in
+    let here = ap (λ xs. get_or xs i 0) c.in_ok-byte-items.ensures.lookup.0.2 ∙ get_or-take 16 bytes i 0 below in
+    let digit : hex_value (get_or bytes i 0) ≡ Some c.from.result = ap hex_value (sym here) ∙ sym c.in_ok-value.ensures ∙ ap Some (sym c.from.ensures) in
+    record {
+      fits = digits_fit i c.loop-byte.predicate c.from.result c.loop-byte.invariant.fits (value_below (get_or bytes i 0) c.from.result digit);
+      read = c.loop-byte.invariant.read ∙ read_more i c.loop-byte.predicate c.from.result bytes below within digit;
+    }

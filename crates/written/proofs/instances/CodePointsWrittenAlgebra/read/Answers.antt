@@ -1,10 +1,22 @@
-use Rattle.std.proofs.Common.{◌≡◌, ◌+◌, ◌%◌, ◌^◌, length, ap, ◌∙◌}
-use Rattle.labels.specs.CutLists.{cuts_of}
-use Rattle.written.specs.Codecs.{word_refused}
+use Rattle.std.proofs.Common.{◌≤◌, ◌==◌, Some, None, sym, ap, ◌∙◌, arith}
+use Rattle.std.specs.Bool.{then_some}
+use Rattle.labels.specs.CutLists.{segment_count}
+use Rattle.labels.specs.CutListsLemmas.{cuts_rising}
+use Rattle.written.specs.Hex.{hex_read}
+use Rattle.written.specs.Codecs.{reads_low}
 use Rattle.written.proofs.instances.CodePointsWrittenAlgebra.read.Goals as goal
 
-pub returns-then-low_bits-predicate : goal.returns-then-low_bits-predicate
-returns-then-low_bits-predicate c =
-    let word = c.in_ok-predicate.predicate in
-    let real : c.low_bits.result ≡ word % 2 ^ (length (cuts_of c.args.self.now.cuts) + 1) = c.low_bits.ensures.value ∙ ap (λ n. word % 2 ^ (n + 1)) c.len.ensures in
-    word_refused (length (cuts_of c.args.self.now.cuts) + 1) word c.args.bytes.now c.in_ok-predicate.ensures (λ e. c.if-low_bits-predicate.true (real ∙ e))
+pub returns-in_err-got : goal.returns-in_err-got
+returns-in_err-got c =
+    let cuts = c.args.self.now.cuts in
+    let few : segment_count cuts ≤ 64 = omega (arith, (cuts_rising cuts).few) in
+    c.from_residual.ensures ∙ sym (reads_low (segment_count cuts) (hex_read 16 0 c.args.bytes.now) None few c.in_err-got.ensures)
+
+pub returns : goal.returns
+returns c =
+    let cuts = c.args.self.now.cuts in
+    let got = c.in_ok-got.got in
+    let few : segment_count cuts ≤ 64 = omega (arith, (cuts_rising cuts).few) in
+    c.then_some.ensures
+    ∙ ap (λ w. then_some (w == got.predicate) got) c.real_bits.ensures.value
+    ∙ sym (reads_low (segment_count cuts) (hex_read 16 0 c.args.bytes.now) (Some got) few c.in_ok-got.ensures)

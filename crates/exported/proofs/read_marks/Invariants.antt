@@ -1,6 +1,0 @@
-use Rattle.std.proofs.Common.{◌≡◌, map, take}
-use Rattle.exported.specs.Foreign.{mark_of}
-use Rattle.exported.proofs.read_marks.Given as goal
-
-abbrev pub invariant-loop-i : goal.invariant-loop-i
-invariant-loop-i l = take l.i l.marks ≡ map mark_of (take l.i l.codes)
