@@ -81,6 +81,7 @@ fn print_list(rt: &HostRuntime, list: &LabelList) -> io::Result<()> {
     println!(rt; "explained {} labels", list.labels.len())
 }
 
+// As in `replay`, but that two of the three steps are other ones.
 fn explain(rt: &HostRuntime) -> Result<(), Failure> {
     let text = read_input(rt)?;
     let list = read_list(rt.alloc(), &text)?;

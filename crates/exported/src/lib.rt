@@ -53,6 +53,7 @@ impl From<Rule> for Arrow<u64> {
     }
 }
 
+// One conversion for each direction; C wants the fields in the order of `Rule`.
 impl From<Arrow<u64>> for Rule {
     ghost from_gives = { λ x r. r ≡ rule_of x };
 
@@ -169,6 +170,7 @@ pub extern "C" fn worsklif_settle(codes: &[u8], rules: &[Rule], rows: &mut [u64]
         &mut kept,
     );
     rows.copy_from_slice(&kept.words);
+    // `as`, since there is no `From<usize>` for `u64`.
     number as u64
 }
 

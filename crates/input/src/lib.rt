@@ -44,6 +44,7 @@ pub fn read_input(rt: &HostRuntime) -> Result<Vec<u8>, Failure>
     ensures { IfOk result (λ text. vec_len text ≤ 65536) }
 {
     let mut text = Vec::new(rt.alloc());
+    // `as`, since there is no `From<usize>` for `u64`.
     let mut input = rt.stdin().take(MOST as u64 + 1);
     let _n = input.read_to_end(&mut text)?;
     if text.len() > MOST {

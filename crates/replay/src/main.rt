@@ -81,6 +81,7 @@ fn carry_out(rt: &HostRuntime, script: &Script) -> io::Result<()> {
     }
 }
 
+// As in `explain`, but that two of the three steps are other ones.
 fn run(rt: &HostRuntime) -> Result<(), Failure> {
     let text = read_input(rt)?;
     let script = read_script(rt.alloc(), &text)?;

@@ -17,6 +17,7 @@ pub const OWN: u32 = 1;
 pub(crate) fn number_at(line: Line<'_>, k: usize) -> Result<u16, Fault>
     ensures { result ≡ number_at 65535 line.entry.at (fields line.entry.bytes.now) k }
 {
+    // The most that is read fits; `try_from` would add a case that cannot be.
     Ok(line.field(k).number(65_535)? as u16)
 }
 

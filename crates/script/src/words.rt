@@ -18,6 +18,7 @@ pub type Symbol = Either<u8, u32>;
 fn letter_symbol(letter: u8, digits: &[u8]) -> Option<Symbol>
     ensures { result ≡ symbol_of_letter letter digits.now }
 {
+    // The most that is read fits in a style mark; `try_from` would add a case that cannot be.
     match letter {
         b'm' => Some(Either::Left(read_number(digits, 255)? as u8)),
         b'c' => Some(Either::Right(read_number(digits, u32::MAX)?)),
