@@ -2,7 +2,7 @@
 
 ghost use Rattle.std.specs.Prelude.{◌≡◌};
 ghost use Rattle.rulebook.specs.declared.parts.Condition.TheVariants.{Settled, Open};
-ghost use Rattle.rulebook.specs.View.{view};
+ghost use Rattle.rulebook.specs.View.{view, number_of};
 
 use labels::LabelAlgebra;
 use rulebook::{Book, Ticket};
@@ -10,7 +10,7 @@ use rulebook::{Book, Ticket};
 // The ticket of a settled book, which it leaves open.
 pub(crate) fn draw<P>(scratch: &mut Book<'_, P>) -> Ticket
     requires { (view scratch.old).condition ≡ Settled }
-    ensures bears { result.number ≡ (view scratch.old).number }
+    ensures bears { number_of result ≡ (view scratch.old).number }
     ensures opens { (view scratch.new).condition ≡ Open }
     ensures same { (view scratch.new).number ≡ (view scratch.old).number }
 {
@@ -24,7 +24,7 @@ pub(crate) fn spend<L: LabelAlgebra>(
     ticket: Ticket,
 )
     requires open { (view scratch.old).condition ≡ Open }
-    requires own { ticket.number ≡ (view scratch.old).number }
+    requires own { number_of ticket ≡ (view scratch.old).number }
 {
     // Not `unwrap`: an error would hold a ticket, which may not be let go.
     match scratch.settle(labels, ticket) {

@@ -18,12 +18,12 @@ pub trait Ranged {
     ghost below: { (a : Self) (p k : ℕ) → at a p k ≡ true → k < 1114112 };
 }
 
-// The longest runs of the numbers that `p` holds of, from the lowest on.
+// The longest runs of the numbers from `from` on that `p` holds of; a new one begins with the lowest.
 #[derive(Drop)]
 pub struct Runs<'a, A> {
-    of: &'a A,
-    p: u64,
-    from: u32,
+    pub of: &'a A,
+    pub p: u64,
+    pub from: u32,
 }
 
 impl<'a, A: Ranged> Runs<'a, A> {
