@@ -3,7 +3,7 @@ use Rattle.std.specs.Prelude.{ℕ, Bool, not, cond, ◌&&◌, ◌||◌, is_ok, L
 use Rattle.std.specs.List.{between}
 use Rattle.rulebook.specs.Model.{Abstract, opening, adding_state, re_marking, adding_arrow, striking, settling}
 use Rattle.histories.specs.declared.calls.Call.{Call}
-use Rattle.histories.specs.declared.calls.Call.TheVariants.{Open, AddState, ReMark, AddArrow, Strike, Settle}
+use Rattle.histories.specs.declared.calls.Call.TheVariants.{Open, AddState, ReMark, AddArrow, Strike, Settle, Ask, CopyRows, TestWord, Reduce}
 
 module _ {P : Type 0} (satisfiable : P → Bool) where
   -- what one call leaves of the book: a call that is declined, a question and a reduction into a target change nothing
@@ -14,7 +14,10 @@ module _ {P : Type 0} (satisfiable : P → Bool) where
   left_by b (AddArrow t p l q) = (adding_arrow b t p l q (satisfiable l)).next
   left_by b (Strike t k) = (striking b t k).next
   left_by b (Settle t) = (settling b t).next
-  left_by b _ = b
+  left_by b (Ask p q) = b
+  left_by b (CopyRows i j) = b
+  left_by b (TestWord i j) = b
+  left_by b Reduce = b
 
   -- what the calls leave, one after another
   abbrev pub present : Abstract P → List (Call P) → Abstract P
@@ -25,8 +28,15 @@ module _ {P : Type 0} (satisfiable : P → Bool) where
 -- settle spends it
 abbrev pub ticket_by : {P : Type 0} → Abstract P → Bool → Call P → Bool
 ticket_by b h Open = is_ok (opening b).answer || h
+ticket_by b h (AddState t m) = h
+ticket_by b h (ReMark t p m) = h
+ticket_by b h (AddArrow t p l q) = h
+ticket_by b h (Strike t k) = h
 ticket_by b h (Settle t) = not (is_ok (settling b t).answer) && h
-ticket_by b h _ = h
+ticket_by b h (Ask p q) = h
+ticket_by b h (CopyRows i j) = h
+ticket_by b h (TestWord i j) = h
+ticket_by b h Reduce = h
 
 -- and after the calls, one after another
 abbrev pub ticket_after : {P : Type 0} → (P → Bool) → Abstract P → Bool → List (Call P) → Bool
