@@ -53,8 +53,9 @@ fn carry_out(rt: &HostRuntime, script: &Script) -> io::Result<()> {
         label: labels.none(),
         target: 0,
     };
-    let mut table = vec![in rt.alloc(); blank; PLACES]?;
-    let mut room = vec![in rt.alloc(); blank; PLACES]?;
+    // Arrays, so that no memory is asked for that a script does not need.
+    let mut table = [blank; PLACES];
+    let mut room = [blank; PLACES];
     let mut answers = vec![in rt.alloc(); Ok(Answer::Done); script.calls.len()]?;
     let mut rows = [0; 1024];
     let mut book = Book::new(&mut table, OWN);
