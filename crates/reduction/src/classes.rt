@@ -123,18 +123,17 @@ impl<L: LabelAlgebra> Source<'_, L> {
         top
     }
 
-    fn chains(&self, names: &[u8; 256]) -> Chains
-        ensures last { Heads (map (λ x. slice_index names.now x.source) self.now.arrows.now) (length self.now.arrows.now) result.last }
-        ensures before { Links (map (λ x. slice_index names.now x.source) self.now.arrows.now) (length self.now.arrows.now) result.before }
+    // Into a table that is there: one of 32 KiB that is handed out is copied.
+    fn chains(&self, names: &[u8; 256], into: &mut Chains)
+        ensures last { Heads (map (λ x. slice_index names.now x.source) self.now.arrows.now) (length self.now.arrows.now) into.new.last }
+        ensures before { Links (map (λ x. slice_index names.now x.source) self.now.arrows.now) (length self.now.arrows.now) into.new.before }
     {
-        let mut last = [None; 256];
-        let mut before = [None; 8192];
+        into.last = [None; 256];
         for (k, arrow) in self.arrows.iter().enumerate() {
             let c = usize::from(names[usize::from(arrow.source)]);
-            before[k] = last[c];
-            last[c] = Some(k as u16);
+            into.before[k] = into.last[c];
+            into.last[c] = Some(k as u16);
         }
-        Chains { last, before }
     }
 }
 
@@ -144,7 +143,11 @@ impl<'a, L: LabelAlgebra> Classes<'a, L> {
     {
         let names = book.names();
         let marks = book.pruned_marks(&book.merged_marks(&names));
-        let chains = book.chains(&names);
+        let mut chains = Chains {
+            last: [None; 256],
+            before: [None; 8192],
+        };
+        book.chains(&names, &mut chains);
         Classes {
             book,
             names,

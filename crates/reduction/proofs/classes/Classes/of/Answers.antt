@@ -18,6 +18,6 @@ invariant_of-result g c =
       named = named;
       initial = λ d h. top.initial d (omega (arith, h, b.few_states)) ∙ ap (λ (f : ℕ → Bool). highest (length b.marks.now) K f d) (λ i e. merged.initial K named e i);
       accepting = λ d h. top.accepting d (omega (arith, h, b.few_states)) ∙ merged.accepting K named d;
-      heads = subst (λ (keys : List ℕ). Heads keys (length xs) c.chains-chains.result.last) keys c.chains-chains.ensures.last;
-      links = subst (λ (keys : List ℕ). Links keys (length xs) c.chains-chains.result.before) keys c.chains-chains.ensures.before;
+      heads = subst (λ (keys : List ℕ). Heads keys (length xs) c.chains.new.into.last) keys c.chains.ensures.last;
+      links = subst (λ (keys : List ℕ). Links keys (length xs) c.chains.new.into.before) keys c.chains.ensures.before;
     }
