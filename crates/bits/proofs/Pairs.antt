@@ -1,6 +1,7 @@
 -- The pairs of rows with nothing in them, and after a write of one bit.
 use Rattle.std.proofs.Common.{◌≡◌, ℕ, ◌+◌, ◌-◌, ◌*◌, ◌/◌, ◌%◌, ◌^◌, ◌<◌, ◌≤◌, Bool, true, false, cond, eqb, ltb, List, length, get_or, set, replicate, slice_range, drop, subst, not, Decides, MatchBool, mod-eq_of_lt, zero-add, sym, ap, ◌∙◌, refl, inl, inr, arith, get_or-set_other, get_or-set_same, pow_pos}
 use lib.Bits.{bit_and, bit_or}
+use Rattle.std.proofs.lemmas.Grind.{same_number_lists}
 use Rattle.std.proofs.lemmas.Nat.{mod_below, and_le_l}
 use Rattle.std.proofs.lemmas.Bool.{cases_eq, cases_lt, and_parts, and_from, ltb-true, eqb-true, cases_Bool, both_ways, not_from_false, false≢true, cases_order, and_right, eq-eqb, ne_eqb, lt-ltb, le-ltb, le-leb, lt-leb}
 use Rattle.std.proofs.lemmas.List.{length-take-le, length-drop, get_or-take, get_or-drop, get_or-replicate, get_or_past, length-replicate}
@@ -48,6 +49,10 @@ same_row old new p p' same q = elim (cases_lt q 256) [
   | inl l ↦ rw (same (q / 64) (omega arith))
   | inr past ↦ rw le-ltb
 ]
+
+-- words that are written from the first place on and fill the rows are the rows
+pub written_whole : (rows words : List ℕ) → length words ≡ length rows → ((i : ℕ) → i < length words → get_or rows (0 + i) 0 ≡ get_or words i 0) → words ≡ rows
+written_whole rows words long here = same_number_lists words rows long (λ i h. sym (here i h) ∙ ap (λ n. get_or rows n 0) (zero-add i))
 
 -- two words have a bit in common
 abbrev pub Common : ℕ → ℕ → Type 0

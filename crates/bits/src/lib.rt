@@ -10,7 +10,7 @@ ghost use Rattle.bits.specs.Laws.{WordLaws};
 
 mod matrix;
 
-pub use matrix::{Rows, is_kept, put_word, set};
+pub use matrix::{Rows, is_kept, put_word, put_words, set};
 
 // Whether bit `k` of `word` is set; there is none past 63.
 pub fn is_set(word: u64, k: usize) -> bool

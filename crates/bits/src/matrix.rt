@@ -1,6 +1,6 @@
 // Rows of 256 bits: four words to a row, so that a relation on 256 states is 256 rows.
 
-ghost use Rattle.std.specs.Prelude.{◌≡◌, ℕ, ◌+◌, ◌*◌, ◌<◌, true, false, length, Decides, ◌≢◌, slice_set};
+ghost use Rattle.std.specs.Prelude.{◌≡◌, ℕ, ◌+◌, ◌*◌, ◌<◌, ◌≤◌, true, false, ◌⊎◌, length, Decides, ◌≢◌, slice_index, slice_set};
 ghost use Rattle.bits.specs.Bit.{bit};
 ghost use Rattle.bits.specs.Matrix.{pair, Changed};
 
@@ -43,8 +43,7 @@ impl<const WORDS: usize> Rows<WORDS> {
         ensures here { (q : ℕ) → pair self.new.words p q ≡ pair row.now.words 0 q }
         ensures others { (i q : ℕ) → i ≢ p → pair self.new.words i q ≡ pair self.old.words i q }
     {
-        let words = &mut self.words[..];
-        words[4 * p..4 * p + 4].copy_from_slice(&row.words);
+        put_words(&mut self.words, 4 * p, &row.words);
     }
 
     // Whether row `p` and the one of `row` have a number in common.
@@ -86,7 +85,18 @@ pub fn set(rows: &mut [u64], p: usize, q: usize, kept: bool)
     put_word(rows, i, if kept { word | bit } else { word & !bit });
 }
 
-// Writes a word of a row.
+// Writes words from the place `at` on, one after the other.
+pub fn put_words(rows: &mut [u64], at: usize, words: &[u64])
+    requires { at + length words.now ≤ length rows.old }
+    ensures here { (i : ℕ) → i < length words.now → slice_index rows.new (at + i) ≡ slice_index words.now i }
+    ensures others { (i : ℕ) → (i < at) ⊎ (at + length words.now ≤ i) → slice_index rows.new i ≡ slice_index rows.old i }
+{
+    for (i, word) in words.iter().enumerate() {
+        put_word(rows, at + i, *word);
+    }
+}
+
+// Writes a word of a row: the only place where rows are written.
 pub fn put_word(rows: &mut [u64], i: usize, word: u64)
     requires { i < length rows.old }
     ensures { rows.new ≡ slice_set rows.old i word }

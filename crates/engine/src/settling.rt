@@ -110,23 +110,27 @@ impl<L: LabelAlgebra> Indexed<'_, L, L::Predicate> {
     }
 }
 
-// Fills `rows` with exactly the greatest simulation, every other bit 0, and answers the number of kept pairs.
+// Fills `rows`, 1,024 words wherever they lie, with exactly the greatest simulation, every other bit 0, and answers the number
+// of kept pairs.
 pub fn settle<L: LabelAlgebra>(
     labels: &L,
     arrows: &[Arrow<L::Predicate>],
     marks: &[Mark],
-    rows: &mut Rows<1024>,
+    rows: &mut [u64],
 ) -> usize
+    requires rows { length rows.old ≡ 1024 }
     requires states { length marks.now ≤ 256 }
     requires arrows { length arrows.now ≤ 8192 }
     requires within { AllByRecursion (Within (length marks.now)) arrows.now }
-    ensures keeps { Keeps (automaton (L.LabelAlgebra.holds labels.now) marks.now arrows.now) (pair rows.new.words) }
-    ensures greatest { Greatest (automaton (L.LabelAlgebra.holds labels.now) marks.now arrows.now) (pair rows.new.words) }
-    ensures empty { (p q : ℕ) → (length marks.now ≤ p) ⊎ (length marks.now ≤ q) → pair rows.new.words p q ≡ false }
-    ensures count { result ≡ pairs (pair rows.new.words) (length marks.now) }
+    ensures keeps { Keeps (automaton (L.LabelAlgebra.holds labels.now) marks.now arrows.now) (pair rows.new) }
+    ensures greatest { Greatest (automaton (L.LabelAlgebra.holds labels.now) marks.now arrows.now) (pair rows.new) }
+    ensures empty { (p q : ℕ) → (length marks.now ≤ p) ⊎ (length marks.now ≤ q) → pair rows.new p q ≡ false }
+    ensures count { result ≡ pairs (pair rows.new) (length marks.now) }
 {
-    fill(marks, rows);
+    let mut kept = Rows::empty();
+    fill(marks, &mut kept);
     let book = Indexed::new(labels, marks, arrows);
-    book.sweep(rows);
-    book.count(rows)
+    book.sweep(&mut kept);
+    bits::put_words(rows, 0, &kept.words);
+    book.count(&kept)
 }

@@ -2,29 +2,24 @@
 
 use super::*;
 use automata::{Arrow, Mark};
-use bits::Rows;
 use labels::{Both, Either, StyleMarks, Sum};
 
 #[test]
 fn a_book_without_states_keeps_nothing(rt: HostRuntime) {
-    let mut rows = Rows {
-        words: [u64::MAX; 1024],
-    };
+    let mut rows = [u64::MAX; 1024];
     assert_eq!(rt; settle(&StyleMarks, &[], &[], &mut rows), 0);
-    let words = rows.words;
-    assert_eq!(rt; words[0], 0);
+    assert_eq!(rt; rows[0], 0);
 }
 
 #[test]
 fn a_state_that_accepts_is_above_one_that_does_not(rt: HostRuntime) {
-    let mut rows = Rows::empty();
+    let mut rows = [0; 1024];
     assert_eq!(rt;
         settle(&StyleMarks, &[], &[Mark::Initial, Mark::Both], &mut rows),
         3
     );
-    let words = rows.words;
-    assert_eq!(rt; words[0], 3);
-    assert_eq!(rt; words[4], 2);
+    assert_eq!(rt; rows[0], 3);
+    assert_eq!(rt; rows[4], 2);
 }
 
 #[test]
@@ -41,7 +36,7 @@ fn twins_are_kept_both_ways(rt: HostRuntime) {
             target: 2,
         },
     ];
-    let mut rows = Rows::empty();
+    let mut rows = [0; 1024];
     assert_eq!(rt;
         settle(
             &StyleMarks,
@@ -72,7 +67,7 @@ fn one_arrow_is_answered_by_two(rt: HostRuntime) {
             target: 2,
         },
     ];
-    let mut rows = Rows::empty();
+    let mut rows = [0; 1024];
     assert_eq!(rt;
         settle(
             &StyleMarks,
@@ -91,7 +86,7 @@ fn what_loops_is_not_below_what_stops(rt: HostRuntime) {
         label: 1,
         target: 0,
     }];
-    let mut rows = Rows::empty();
+    let mut rows = [0; 1024];
     assert_eq!(rt;
         settle(
             &StyleMarks,
@@ -154,7 +149,7 @@ fn a_sum_three_deep_is_settled(rt: HostRuntime) {
         },
     ];
     let marks = [Mark::Initial, Mark::Neither, Mark::Accepting];
-    let mut rows = Rows::empty();
+    let mut rows = [0; 1024];
     assert_eq!(rt; settle(&labels, &arrows, &marks, &mut rows), 5);
     assert!(rt;
         accepts(

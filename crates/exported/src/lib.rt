@@ -13,7 +13,6 @@ ghost use Rattle.reduction.specs.Filled.{Bounded, Crowded};
 ghost use Rattle.exported.specs.Foreign.{mark_of, code_of, arrow_of, rule_of, book_of, Sound, Settled, Roomy, Made, Past};
 
 use automata::{Arrow, Mark};
-use bits::Rows;
 use engine::settle;
 use labels::StyleMarks;
 use reduction::{Counts, reduce};
@@ -151,10 +150,7 @@ pub extern "C" fn worsklif_settle(codes: &[u8], rules: &[Rule], rows: &mut [u64]
     ensures settled { Sound codes.now rules.now rows.old → Settled codes.now rules.now rows.new result }
     ensures refused { (Sound codes.now rules.now rows.old → ⊥) → (result ≡ 2 ^ 64 - 1) × (rows.new ≡ rows.old) }
 {
-    let Ok(words) = <[u64; 1024]>::try_from(&*rows) else {
-        return u64::MAX;
-    };
-    if !is_book(codes, rules) {
+    if rows.len() != 1024 || !is_book(codes, rules) {
         return u64::MAX;
     }
     // Here and in reduce, not in a function: it would hand out the tables by value, and so have them twice on the stack.
@@ -162,14 +158,12 @@ pub extern "C" fn worsklif_settle(codes: &[u8], rules: &[Rule], rows: &mut [u64]
     let mut marks = [Mark::Neither; 256];
     write(codes, &mut marks, mark_of);
     write(rules, &mut arrows, Arrow::from);
-    let mut kept = Rows { words };
     let number = settle(
         &StyleMarks,
         &arrows[..rules.len()],
         &marks[..codes.len()],
-        &mut kept,
+        rows,
     );
-    rows.copy_from_slice(&kept.words);
     // `as`, since there is no `From<usize>` for `u64`.
     number as u64
 }
@@ -193,10 +187,7 @@ pub extern "C" fn worsklif_reduce(
     ensures refused { result ≡ false → Sound codes.now rules.now rows.now → Roomy into_codes.old into_rows.old → Crowded (book_of codes.now rules.now) (pair rows.now) (length into_rules.old) }
     ensures same { result ≡ false → (into_codes.new ≡ into_codes.old) × (into_rules.new ≡ into_rules.old) × (into_rows.new ≡ into_rows.old) × (size.new ≡ size.old) }
 {
-    let Ok(words) = <[u64; 1024]>::try_from(rows) else {
-        return false;
-    };
-    if !is_book(codes, rules) || !is_roomy(into_codes, into_rows) {
+    if rows.len() != 1024 || !is_book(codes, rules) || !is_roomy(into_codes, into_rows) {
         return false;
     }
     let mut arrows = [BLANK; 8192];
@@ -205,12 +196,12 @@ pub extern "C" fn worsklif_reduce(
     write(rules, &mut arrows, Arrow::from);
     let mut new_arrows = [BLANK; 8192];
     let mut new_marks = [Mark::Neither; 256];
-    let mut new_rows = Rows::empty();
+    let mut new_rows = [0; 1024];
     let Some(counts) = reduce(
         &StyleMarks,
         &arrows[..rules.len()],
         &marks[..codes.len()],
-        &Rows { words },
+        rows,
         &mut new_arrows,
         &mut new_marks,
         &mut new_rows,
@@ -226,7 +217,7 @@ pub extern "C" fn worsklif_reduce(
     }
     write(&new_marks[..states], into_codes, code_of);
     write(&new_arrows[..used], into_rules, Rule::from);
-    into_rows.copy_from_slice(&new_rows.words);
+    bits::put_words(into_rows, 0, &new_rows);
     *size = Size::from(counts);
     true
 }

@@ -35,9 +35,8 @@ pub struct Counts {
     pub arrows: usize,
 }
 
-// Reduces a book by its kept pairs, `rows`, into another: marks and arrows from the first place on, and rows. Where the
-// target's table, of which at most 8,192 places count, cannot take the arrows, it answers nothing and alters nothing.
-pub fn reduce<'a, L: LabelAlgebra>(
+// The same on rows of the engine's own.
+fn reduce_rows<'a, L: LabelAlgebra>(
     labels: &'a L,
     arrows: &'a [Arrow<L::Predicate>],
     marks: &'a [Mark],
@@ -67,4 +66,39 @@ pub fn reduce<'a, L: LabelAlgebra>(
     write_rows(rows, &reached.staying, into_rows);
     let states = reached.staying.len();
     Some(Counts { states, arrows })
+}
+
+// Reduces a book by its kept pairs, `rows`, into another: marks and arrows from the first place on, and rows; both rows are 1,024
+// words wherever they lie. Where the target's table, of which at most 8,192 places count, cannot take the arrows, it answers nothing
+// and alters nothing.
+pub fn reduce<'a, L: LabelAlgebra>(
+    labels: &'a L,
+    arrows: &'a [Arrow<L::Predicate>],
+    marks: &'a [Mark],
+    rows: &'a [u64],
+    into_arrows: &mut [Arrow<L::Predicate>],
+    into_marks: &mut [Mark],
+    into_rows: &mut [u64],
+) -> Option<Counts>
+    requires source { Bounded marks.now arrows.now }
+    requires rows { length rows.now ≡ 1024 }
+    requires target { (length into_marks.old ≡ 256) × (length into_rows.old ≡ 1024) }
+    ensures made { MatchOption result (Crowded (automaton (L.LabelAlgebra.holds labels.now) marks.now arrows.now) (pair rows.now) (length into_arrows.old)) (λ c. Filled (L.LabelAlgebra.holds labels.now) (automaton (L.LabelAlgebra.holds labels.now) marks.now arrows.now) (pair rows.now) c.states c.arrows into_marks.new into_arrows.new into_rows.new) }
+    ensures same { IfNone result ((into_marks.new ≡ into_marks.old) × (into_arrows.new ≡ into_arrows.old) × (into_rows.new ≡ into_rows.old)) }
+    ensures least { IfSome result (λ c. Greatest (automaton (L.LabelAlgebra.holds labels.now) marks.now arrows.now) (pair rows.now) → Minimal (automaton (L.LabelAlgebra.holds labels.now) marks.now arrows.now) (automaton (L.LabelAlgebra.holds labels.now) (take c.states into_marks.new) (take c.arrows into_arrows.new)) (pair into_rows.new) c.arrows) }
+{
+    let mut kept = Rows::empty();
+    bits::put_words(&mut kept.words, 0, rows);
+    let mut order = Rows::empty();
+    let counts = reduce_rows(
+        labels,
+        arrows,
+        marks,
+        &kept,
+        into_arrows,
+        into_marks,
+        &mut order,
+    )?;
+    bits::put_words(into_rows, 0, &order.words);
+    Some(counts)
 }

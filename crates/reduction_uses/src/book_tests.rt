@@ -1,7 +1,6 @@
 // Books over style marks. The row of a state's pairs begins at four times the state.
 
 use automata::{Arrow, Mark};
-use bits::Rows;
 use labels::StyleMarks;
 use reduction::reduce;
 use std::test::Fail;
@@ -16,12 +15,12 @@ const BLANK: Arrow<u64> = Arrow {
 fn a_book_without_states_stays_so(rt: HostRuntime) -> Result<(), Fail> {
     let mut into_arrows = [BLANK; 0];
     let mut into_marks = [Mark::Both; 256];
-    let mut into_rows = Rows { words: [7; 1024] };
+    let mut into_rows = [7; 1024];
     let counts = reduce(
         &StyleMarks,
         &[BLANK; 0],
         &[Mark::Both; 0],
-        &Rows { words: [0; 1024] },
+        &[0; 1024],
         &mut into_arrows,
         &mut into_marks,
         &mut into_rows,
@@ -29,8 +28,7 @@ fn a_book_without_states_stays_so(rt: HostRuntime) -> Result<(), Fail> {
     .ok_or("no room")?;
     assert_eq!(rt; counts.states, 0);
     assert_eq!(rt; counts.arrows, 0);
-    let word = into_rows.words[0];
-    assert_eq!(rt; word, 0);
+    assert_eq!(rt; into_rows[0], 0);
     Ok(())
 }
 
@@ -41,12 +39,12 @@ fn an_initial_state_below_another_goes(rt: HostRuntime) -> Result<(), Fail> {
     rows[4] = 0b10;
     let mut into_arrows = [BLANK; 1];
     let mut into_marks = [Mark::Neither; 256];
-    let mut into_rows = Rows { words: [7; 1024] };
+    let mut into_rows = [7; 1024];
     let counts = reduce(
         &StyleMarks,
         &[BLANK; 0],
         &[Mark::Initial, Mark::Both],
-        &Rows { words: rows },
+        &rows,
         &mut into_arrows,
         &mut into_marks,
         &mut into_rows,
@@ -55,8 +53,7 @@ fn an_initial_state_below_another_goes(rt: HostRuntime) -> Result<(), Fail> {
     assert_eq!(rt; counts.states, 1);
     assert_eq!(rt; counts.arrows, 0);
     assert!(rt; into_marks[0].is_initial() && into_marks[0].is_accepting());
-    let word = into_rows.words[0];
-    assert_eq!(rt; word, 1);
+    assert_eq!(rt; into_rows[0], 1);
     Ok(())
 }
 
@@ -81,12 +78,12 @@ fn twins_become_one_state(rt: HostRuntime) -> Result<(), Fail> {
     rows[8] = 0b110;
     let mut into_arrows = [BLANK; 2];
     let mut into_marks = [Mark::Both; 256];
-    let mut into_rows = Rows { words: [7; 1024] };
+    let mut into_rows = [7; 1024];
     let counts = reduce(
         &StyleMarks,
         &arrows,
         &marks,
-        &Rows { words: rows },
+        &rows,
         &mut into_arrows,
         &mut into_marks,
         &mut into_rows,
@@ -103,10 +100,7 @@ fn twins_become_one_state(rt: HostRuntime) -> Result<(), Fail> {
         ),
         (0, 3, 1)
     );
-    assert_eq!(rt;
-        (into_rows.words[0], into_rows.words[4], into_rows.words[8]),
-        (1, 2, 0)
-    );
+    assert_eq!(rt; (into_rows[0], into_rows[4], into_rows[8]), (1, 2, 0));
     Ok(())
 }
 
@@ -136,12 +130,12 @@ fn one_arrow_and_two_arrows_of_the_same_symbols_become_one(rt: HostRuntime) -> R
     rows[8] = 0b100;
     let mut into_arrows = [BLANK; 3];
     let mut into_marks = [Mark::Both; 256];
-    let mut into_rows = Rows { words: [7; 1024] };
+    let mut into_rows = [7; 1024];
     let counts = reduce(
         &StyleMarks,
         &arrows,
         &marks,
-        &Rows { words: rows },
+        &rows,
         &mut into_arrows,
         &mut into_marks,
         &mut into_rows,
@@ -188,12 +182,12 @@ fn every_step_has_something_to_do(rt: HostRuntime) -> Result<(), Fail> {
     rows[12] = 0b1111;
     let mut into_arrows = [BLANK; 1];
     let mut into_marks = [Mark::Both; 256];
-    let mut into_rows = Rows { words: [7; 1024] };
+    let mut into_rows = [7; 1024];
     let counts = reduce(
         &StyleMarks,
         &arrows,
         &marks,
-        &Rows { words: rows },
+        &rows,
         &mut into_arrows,
         &mut into_marks,
         &mut into_rows,
@@ -209,10 +203,7 @@ fn every_step_has_something_to_do(rt: HostRuntime) -> Result<(), Fail> {
         ),
         (0, 1, 1)
     );
-    assert_eq!(rt;
-        (into_rows.words[0], into_rows.words[4], into_rows.words[12]),
-        (1, 2, 0)
-    );
+    assert_eq!(rt; (into_rows[0], into_rows[4], into_rows[12]), (1, 2, 0));
     Ok(())
 }
 
@@ -242,12 +233,12 @@ fn the_order_of_classes_that_stay_is_kept(rt: HostRuntime) -> Result<(), Fail> {
     rows[8] = 0b110;
     let mut into_arrows = [BLANK; 3];
     let mut into_marks = [Mark::Both; 256];
-    let mut into_rows = Rows { words: [7; 1024] };
+    let mut into_rows = [7; 1024];
     let counts = reduce(
         &StyleMarks,
         &arrows,
         &marks,
-        &Rows { words: rows },
+        &rows,
         &mut into_arrows,
         &mut into_marks,
         &mut into_rows,
@@ -263,10 +254,7 @@ fn the_order_of_classes_that_stay_is_kept(rt: HostRuntime) -> Result<(), Fail> {
         ),
         (0, 2, 2)
     );
-    assert_eq!(rt;
-        (into_rows.words[0], into_rows.words[4], into_rows.words[8]),
-        (1, 2, 6)
-    );
+    assert_eq!(rt; (into_rows[0], into_rows[4], into_rows[8]), (1, 2, 6));
     Ok(())
 }
 
@@ -291,12 +279,12 @@ fn a_table_one_arrow_too_short_alters_nothing(rt: HostRuntime) {
     rows[8] = 0b100;
     let mut into_arrows = [BLANK; 1];
     let mut into_marks = [Mark::Both; 256];
-    let mut into_rows = Rows { words: [7; 1024] };
+    let mut into_rows = [7; 1024];
     let counts = reduce(
         &StyleMarks,
         &arrows,
         &marks,
-        &Rows { words: rows },
+        &rows,
         &mut into_arrows,
         &mut into_marks,
         &mut into_rows,
@@ -311,6 +299,5 @@ fn a_table_one_arrow_too_short_alters_nothing(rt: HostRuntime) {
         (9, 9, 9)
     );
     assert!(rt; into_marks[0].is_initial() && into_marks[0].is_accepting());
-    let word = into_rows.words[0];
-    assert_eq!(rt; word, 7);
+    assert_eq!(rt; into_rows[0], 7);
 }

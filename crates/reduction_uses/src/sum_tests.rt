@@ -1,7 +1,6 @@
 // A sum three deep through reduction.
 
 use automata::{Arrow, Mark};
-use bits::Rows;
 use labels::{Both, StyleMarks, Sum};
 use reduction::reduce;
 use std::test::Fail;
@@ -59,12 +58,12 @@ fn a_symbol_of_one_leaf_is_pruned_and_that_of_another_stays(rt: HostRuntime) -> 
     };
     let mut into_arrows = [blank; 2];
     let mut into_marks = [Mark::Both; 256];
-    let mut into_rows = Rows { words: [7; 1024] };
+    let mut into_rows = [7; 1024];
     let counts = reduce(
         &deep,
         &arrows,
         &marks,
-        &Rows { words: rows },
+        &rows,
         &mut into_arrows,
         &mut into_marks,
         &mut into_rows,
@@ -86,9 +85,6 @@ fn a_symbol_of_one_leaf_is_pruned_and_that_of_another_stays(rt: HostRuntime) -> 
         ),
         (0, 4)
     );
-    assert_eq!(rt;
-        (into_rows.words[0], into_rows.words[4], into_rows.words[8]),
-        (1, 2, 7)
-    );
+    assert_eq!(rt; (into_rows[0], into_rows[4], into_rows[8]), (1, 2, 7));
     Ok(())
 }

@@ -1,7 +1,6 @@
 -- Rows in another buffer. Assumes nothing.
-use Rattle.std.proofs.Common.{◌≡◌, ℕ, ◌+◌, ◌-◌, ◌*◌, ◌/◌, ◌%◌, ◌<◌, ◌≤◌, ◌&&◌, ltb, List, ◌++◌, length, get_or, take, drop, ap, ◌∙◌, inl, inr, arith, length-append, length-drop, get_or-drop}
-use Rattle.std.proofs.Math.ListN.{get_or-append}
-use Rattle.std.proofs.lemmas.List.{get_or-append_right, get_or-take, length-take-le}
+use Rattle.std.proofs.Common.{◌≡◌, ℕ, ◌+◌, ◌*◌, ◌/◌, ◌%◌, ◌<◌, ◌≤◌, ◌&&◌, ◌⊎◌, ltb, List, length, get_or, take, sym, ap, ◌∙◌, zero-add, inl, inr, arith}
+use Rattle.std.proofs.lemmas.List.{get_or-take, length-take-le}
 use Rattle.std.proofs.lemmas.Bool.{cases_lt, le-ltb}
 use Rattle.bits.specs.Bit.{bit}
 use Rattle.bits.specs.Matrix.{pair}
@@ -15,13 +14,15 @@ pair_agree a b p q same = elim (cases_lt q 256) [
   | inr h ↦ rw (le-ltb q 256 h)
 ]
 
--- the words of n rows, and behind them what was there
-pub copied : (n : ℕ) (rows old front : List ℕ) → front ≡ take (4 * n) rows → 4 * n ≤ length rows → 4 * n ≤ length old → Copied n (pair rows) old (front ++ drop (4 * n) old)
-copied n rows old front is long fits =
-    let here : length front ≡ 4 * n = ap length is ∙ length-take-le (4 * n) rows long in
-    let there = length-drop (4 * n) old in
+-- the words of n rows, written from the first place on
+pub copied : (n : ℕ) (rows old new front : List ℕ) → front ≡ take (4 * n) rows → 4 * n ≤ length rows
+    → ((i : ℕ) → i < length front → get_or new (0 + i) 0 ≡ get_or front i 0)
+    → ((i : ℕ) → (i < 0) ⊎ (0 + length front ≤ i) → get_or new i 0 ≡ get_or old i 0)
+    → length new ≡ length old → Copied n (pair rows) old new
+copied n rows old new front is long here others same =
+    let whole : length front ≡ 4 * n = ap length is ∙ length-take-le (4 * n) rows long in
     record {
-      pairs = λ p q h. pair_agree (front ++ drop (4 * n) old) rows p q (λ i k. get_or-append front (drop (4 * n) old) 0 i (omega arith) ∙ ap (λ xs. get_or xs i 0) is ∙ get_or-take (4 * n) rows i 0 (omega arith));
-      later = λ i h. let back : 4 * n + (i - 4 * n) ≡ i = omega arith in get_or-append_right front (drop (4 * n) old) (4 * n) i 0 here h ∙ get_or-drop (4 * n) old (i - 4 * n) 0 ∙ ap (λ k. get_or old k 0) back;
-      length = length-append front (drop (4 * n) old) ∙ omega arith;
+      pairs = λ p q h. pair_agree new rows p q (λ i k. ap (λ m. get_or new m 0) (sym (zero-add i)) ∙ here i (omega arith) ∙ ap (λ xs. get_or xs i 0) is ∙ get_or-take (4 * n) rows i 0 (omega arith));
+      later = λ i h. others i (inr (omega arith));
+      length = same;
     }

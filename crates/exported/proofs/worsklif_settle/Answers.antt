@@ -27,7 +27,7 @@ returns-clause-settled c _ =
     let m : take (length codes) c.write.new.into ≡ map mark_of codes = made_map mark_of 0 codes c.write.new.into (omega (arith, fits.0, c.write.auto.into)) (λ k d e lt. let h = c.write.ensures.made k d e lt in search (rules, tests)) in
     let x : take (length rules) c.write-2.new.into ≡ map arrow_of rules = made_map arrow_of blank rules c.write-2.new.into (omega (arith, fits.1, c.write-2.auto.into)) (λ k d e lt. let h = c.write-2.ensures.made k d e lt in search (rules, tests)) in
     let e = c.settle-number.ensures in
-    rw c.copy_from_slice.ensures.after (settled_are codes rules c.write.new.into c.write-2.new.into m x c.settle-number.new.rows.words c.settle-number.result e.keeps e.greatest e.empty e.count)
+    settled_are codes rules c.write.new.into c.write-2.new.into m x c.settle-number.new.rows c.settle-number.result e.keeps e.greatest e.empty e.count
 
 pub returns-clause-refused : goal.returns-clause-refused
 returns-clause-refused c none = absurd (none (record { book = c.is_book.ensures.bounded.0 c.if-not-is_book.false; square = search rules }))

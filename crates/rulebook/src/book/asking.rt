@@ -32,7 +32,7 @@ impl<'t, P> Book<'t, P> {
         if words.len() < used {
             return Err(Refusal::TooSmall);
         }
-        words[..used].copy_from_slice(&self.inner.rows.words[..used]);
+        bits::put_words(words, 0, &self.inner.rows.words[..used]);
         Ok(())
     }
 

@@ -46,10 +46,10 @@ impl<'t, P: Copy> Book<'t, P> {
             labels,
             source.arrows(),
             source.marks(),
-            &source.inner.rows,
+            &source.inner.rows.words,
             self.slots,
             &mut marks,
-            &mut rows,
+            &mut rows.words,
         )
         .ok_or(Refusal::TooSmall)?;
         self.inner = Inner {

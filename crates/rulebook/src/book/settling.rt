@@ -18,7 +18,7 @@ impl<'t, P: Copy> Book<'t, P> {
         ensures empty { (p q : ℕ) → (self.now.inner.states ≤ p) ⊎ (self.now.inner.states ≤ q) → pair rows.new.words p q ≡ false }
         ensures count { result ≡ pairs (pair rows.new.words) (length (view self.now).marks) }
     {
-        engine::settle(labels, self.arrows(), self.marks(), rows)
+        engine::settle(labels, self.arrows(), self.marks(), &mut rows.words)
     }
 
     // Settles an open book and takes its ticket back: declines with 8, 7, and then hands the ticket back. Answers the
