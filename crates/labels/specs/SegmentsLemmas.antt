@@ -15,7 +15,7 @@ unfolding segment
 segment-cons cut c cuts = sum_by-cons (λ x. cond (nat_le x c) 1 0) cut cuts
 
 -- where the first s cuts are at or below c, and no other
-segment_is : (cuts : List ℕ) (c s : ℕ) → s ≤ length cuts → ((i : ℕ) → i < s → slice_index cuts i ≤ c) → ((i : ℕ) → s ≤ i → i < length cuts → c < slice_index cuts i)
+pub segment_is : (cuts : List ℕ) (c s : ℕ) → s ≤ length cuts → ((i : ℕ) → i < s → slice_index cuts i ≤ c) → ((i : ℕ) → s ≤ i → i < length cuts → c < slice_index cuts i)
     → segment cuts c ≡ s
 segment_is [] c s h low high = omega (arith, segment_le [] c)
 segment_is (x ∷ cuts) c zero h low high =
