@@ -1,6 +1,6 @@
 // The first fill of the matrix, which keeps every pair that the marks allow, and the count of what is kept.
 
-ghost use Rattle.std.specs.Prelude.{◌≡◌, ℕ, ◌<◌, ◌≤◌, length};
+ghost use Rattle.std.specs.Prelude.{◌≡◌, ℕ, ◌<◌, ◌≤◌, false, length};
 ghost use Rattle.bits.specs.Matrix.{pair};
 ghost use Rattle.automata.specs.Below.{count, pairs};
 ghost use Rattle.engine.specs.Columns.{allowed, size};
@@ -10,14 +10,14 @@ use crate::states::states;
 use automata::Mark;
 use bits::Rows;
 
-// Keeps every pair of states of which the second accepts where the first does, and no other pair.
+// Keeps, in rows that keep nothing, every pair of states of which the second accepts where the first does.
 pub fn fill(marks: &[Mark], rows: &mut Rows<1024>)
-    requires { length marks.now ≤ 256 }
+    requires few { length marks.now ≤ 256 }
+    requires empty { (p q : ℕ) → pair rows.old.words p q ≡ false }
     ensures { (p q : ℕ) → pair rows.new.words p q ≡ allowed marks.now p q }
 {
     let all = states(marks.len(), |_| true);
     let accepting = states(marks.len(), |q| marks[q].is_accepting());
-    *rows = Rows::empty();
     for (p, mark) in marks.iter().enumerate() {
         let above = if mark.is_accepting() { accepting } else { all };
         rows.put_row(p, &above);

@@ -7,7 +7,7 @@
 // numbers and flags only.
 #![tactic(auto)]
 
-ghost use Rattle.std.specs.Prelude.{◌≡◌, length, take, IfSome, IfNone, MatchOption};
+ghost use Rattle.std.specs.Prelude.{◌≡◌, ℕ, false, length, take, IfSome, IfNone, MatchOption};
 ghost use Rattle.automata.specs.Automata.{automaton};
 ghost use Rattle.automata.specs.Simulation.{Greatest};
 ghost use Rattle.automata.specs.Minimal.{Minimal};
@@ -35,7 +35,7 @@ pub struct Counts {
     pub arrows: usize,
 }
 
-// The same on rows of the engine's own.
+// The same on rows of the engine's own, of which the target's keep nothing.
 fn reduce_rows<'a, L: LabelAlgebra>(
     labels: &'a L,
     arrows: &'a [Arrow<L::Predicate>],
@@ -47,6 +47,7 @@ fn reduce_rows<'a, L: LabelAlgebra>(
 ) -> Option<Counts>
     requires source { Bounded marks.now arrows.now }
     requires target { length into_marks.old ≡ 256 }
+    requires empty { (p q : ℕ) → pair into_rows.old.words p q ≡ false }
     ensures made { MatchOption result (Crowded (automaton (L.LabelAlgebra.holds labels.now) marks.now arrows.now) (pair rows.now.words) (length into_arrows.old)) (λ c. Filled (L.LabelAlgebra.holds labels.now) (automaton (L.LabelAlgebra.holds labels.now) marks.now arrows.now) (pair rows.now.words) c.states c.arrows into_marks.new into_arrows.new into_rows.new.words) }
     ensures same { IfNone result ((into_marks.new ≡ into_marks.old) × (into_arrows.new ≡ into_arrows.old) × (into_rows.new.words ≡ into_rows.old.words)) }
     ensures least { IfSome result (λ c. Greatest (automaton (L.LabelAlgebra.holds labels.now) marks.now arrows.now) (pair rows.now.words) → Minimal (automaton (L.LabelAlgebra.holds labels.now) marks.now arrows.now) (automaton (L.LabelAlgebra.holds labels.now) (take c.states into_marks.new) (take c.arrows into_arrows.new)) (pair into_rows.new.words) c.arrows) }

@@ -85,10 +85,11 @@ fn keep_row(rows: &Rows<1024>, staying: &Staying, i: usize, into: &mut Rows<1024
     }
 }
 
+// Into rows that keep nothing.
 pub fn write_rows(rows: &Rows<1024>, staying: &Staying, into: &mut Rows<1024>)
+    requires { (i j : ℕ) → pair into.old.words i j ≡ false }
     ensures { (i j : ℕ) → pair into.new.words i j ≡ (nat_lt i (length staying.now) && (nat_lt j (length staying.now) && (i == j || linked_at (pair rows.now.words) staying.now i j))) }
 {
-    *into = Rows::empty();
     // Here too the number goes on, and not the class.
     for i in 0..staying.len() {
         keep_row(rows, staying, i, into);

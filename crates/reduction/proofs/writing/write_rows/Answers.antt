@@ -6,7 +6,7 @@ use Rattle.reduction.proofs.Rows.{placed_more}
 use Rattle.reduction.proofs.writing.write_rows.Goals as goal
 
 pub loop-i-init : goal.loop-i-init
-loop-i-init c i j = c.empty.ensures i j ∙ sym (and_left (ltb i 0) _ (le-ltb i 0 (omega arith)))
+loop-i-init c i j = c.requires i j ∙ sym (and_left (ltb i 0) _ (le-ltb i 0 (omega arith)))
 
 pub keep_row-requires : goal.keep_row-requires
 keep_row-requires c = record {
